@@ -1,0 +1,4 @@
+pub mod Below
+pub mod State
+pub mod Rules
+pub mod WellFormed

@@ -1,0 +1,50 @@
+// The machine by value: messages, memory, a thread's state with its views, four threads. Times and views are bytes.
+
+// A message of memory: a store of `thread`.
+pub struct Message {
+    pub location: u8,
+    pub value: u8,
+    pub thread: u8,
+}
+
+// The messages at times 1, 2, .. `count`; the other entries are 0.
+pub struct Memory {
+    pub count: u8,
+    pub messages: [Message; 16],
+}
+
+pub struct Register {
+    pub value: u8,
+    pub view: u8,
+}
+
+// A location's forward pair: the time of the thread's last store there, and the view to read it with.
+pub struct Forward {
+    pub time: u8,
+    pub view: u8,
+}
+
+// The views of a thread under the paper's names; `cap` and `rel` are its CAP and Rel.
+pub struct Views {
+    pub rOld: u8,
+    pub wOld: u8,
+    pub rNew: u8,
+    pub wNew: u8,
+    pub cap: u8,
+    pub rel: u8,
+}
+
+// The outstanding promises are a set of times: time t is in it if bit t - 1 is 1.
+pub struct Thread {
+    pub position: u8,
+    pub registers: [Register; 8],
+    pub coherence: [u8; 16],
+    pub forward: [Forward; 16],
+    pub views: Views,
+    pub promises: u16,
+}
+
+pub struct Machine {
+    pub memory: Memory,
+    pub threads: [Thread; 4],
+}

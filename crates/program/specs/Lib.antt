@@ -1,0 +1,5 @@
+pub mod Tests
+pub mod Program
+pub mod Counts
+pub mod WellFormed
+pub mod File

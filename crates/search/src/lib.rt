@@ -1,0 +1,1 @@
+// The answer of the search: definitions and theorems.

@@ -1,0 +1,5 @@
+pub mod Ordered
+pub mod Listed
+pub mod Meets
+pub mod Scan
+pub mod Fewer

@@ -1,0 +1,5 @@
+pub mod Stepping
+pub mod Sequences
+pub mod Answer
+pub mod Demand
+pub mod Lawful

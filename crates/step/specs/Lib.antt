@@ -1,0 +1,5 @@
+pub mod Below
+pub mod Step
+pub mod Order
+pub mod Outcome
+pub mod Trace

@@ -1,0 +1,1 @@
+// Theory only: merging views, for any number of places.
