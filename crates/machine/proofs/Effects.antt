@@ -1,12 +1,13 @@
 -- The rules read backwards: what an executed instruction left, and under which tests.
 -- Assumes nothing.
 use mathlib.Core.Path.{_≡_, refl, sym, subst}
-use mathlib.Core.Bool.{Bool, true, false, _&&_}
+use mathlib.Core.Logic.{⊎-elim}
+use mathlib.Core.Bool.{Bool, true, false, _&&_, _||_}
 use Prim.Native.Nat.{ℕ, max, _+_, _≤_, _<_}
 use native.Mathlib.Omega.{arith}
 use lib.Dec.{T, eqb, leb, ltb, eqb→eq, leb→le, ltb→lt}
 use Rattle.views.specs.Views.{viewAt}
-use Rattle.program.proofs.Tests.{and-left, and-right}
+use Rattle.program.proofs.Tests.{or-cases, and-left, and-right}
 use Rattle.machine.specs.Below.{Operand, ComputeMode, LoadMode, StoreMode, FenceMode, Instr, Compute, Load, Store, Branch, Fence}
 use Rattle.machine.specs.State.{Message, Memory, Views, Thread, messageAt, has}
 use Rattle.machine.specs.Rules.{Executed, refused, next, test, valueOf, viewOf, viewOf₂, address, computeDone, branchBy, branchDone, loadPre, readable, noneNewer, readView, loadDone, loadAt, storePre, promised, storeDone, storeAt, fenceDone, execute}
@@ -97,3 +98,18 @@ moves (loaded r n) = omega arith
 moves (stored p a b) = omega arith
 moves {s = s} (branched {n} {a} {b} e) = let h = branch-moves (eqb (valueOf s a) (valueOf s b)) n in omega arith
 moves (fenced e) = omega arith
+
+-- a time that can be read is a time of the memory
+pub readable-time : (m : Memory) (l t : ℕ) → T (readable m l t) → t ≤ m .count
+unfolding readable
+readable-time m l t h =
+    ⊎-elim (λ a. let e = eqb→eq t 0 a in omega arith) (λ b. leb→le t (m .count) (and-left (leb t (m .count)) (eqb ((messageAt m t) .location) l) b))
+    (or-cases (eqb t 0) (leb t (m .count) && eqb ((messageAt m t) .location) l) h)
+
+-- an instruction executes at a time of the memory
+pub effect-time : {m : Memory} {t : ℕ} {s : Thread} {x : Instr} {s' : Thread} → Effect m t s x s' → t ≤ m .count
+effect-time (computed e) = omega arith
+effect-time {m} {t} {s} (loaded {k} {r} {a} {b} d n) = readable-time m (loadLocation s a b) t d
+effect-time (stored p a b) = p .in-memory
+effect-time (branched e) = omega arith
+effect-time (fenced e) = omega arith

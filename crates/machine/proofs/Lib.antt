@@ -1,3 +1,6 @@
 pub mod Sets
 pub mod Memories
 pub mod Effects
+pub mod Formed
+pub mod Kept
+pub mod Independent

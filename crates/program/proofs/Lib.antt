@@ -1,2 +1,3 @@
 pub mod Tests
 pub mod Counts
+pub mod Formed

@@ -26,7 +26,7 @@ module _ (M : Stepping) where
   hunt few (suc n) s zero = out
   hunt few (suc n) s (suc b) = elim (M .asked s) [ true ↦ found b [] | false ↦ each (λ t c. hunt few n t c) s (few s) b ]
 
-  and-then-same : (x : Scan (M .Step)) (f g : ℕ → Scan (M .Step)) → ((c : ℕ) → f c ≡ g c) → andThen x f ≡ andThen x g
+  pub and-then-same : (x : Scan (M .Step)) (f g : ℕ → Scan (M .Step)) → ((c : ℕ) → f c ≡ g c) → andThen x f ≡ andThen x g
   and-then-same (going c) f g h = h c
   and-then-same (found c q) f g h = refl
   and-then-same out f g h = refl

@@ -3,3 +3,4 @@ pub mod Listed
 pub mod Meets
 pub mod Scan
 pub mod Fewer
+pub mod Alike

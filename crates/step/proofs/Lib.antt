@@ -1,1 +1,5 @@
 pub mod Backwards
+pub mod Bound
+pub mod Room
+pub mod OwnPromise
+pub mod Kept

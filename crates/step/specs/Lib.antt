@@ -3,3 +3,4 @@ pub mod Step
 pub mod Order
 pub mod Outcome
 pub mod Trace
+pub mod Reached

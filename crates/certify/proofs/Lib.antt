@@ -1,0 +1,5 @@
+pub mod Certified
+pub mod Fit
+pub mod Dead
+pub mod Candidates
+pub mod Law

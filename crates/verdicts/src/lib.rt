@@ -1,0 +1,1 @@
+// Theory only: programs with known verdicts, proved under the definitions.
