@@ -10,9 +10,9 @@ use Rattle.program.specs.Counts.{oneStore}
 use Rattle.program.specs.WellFormed.{instructionTests, conditionTests}
 
 -- a program, or the number and the place of the refusal
-pub data Read : Type 0 where
-  refused : ℕ → ℕ → Read
-  program : Program → Read
+pub data FileAnswer : Type 0 where
+  refused : ℕ → ℕ → FileAnswer
+  program : Program → FileAnswer
 
 -- how far the reading has come: the place of the next record, the stores read so far, the program so far; or a refusal, which ends it
 pub data Reading : Type 0 where
@@ -131,7 +131,7 @@ readQuestion f (reading at s p) =
     (readConditions f n 0 (reading (at + 3) s (withQuestion n (p .question) p))))
 
 -- ---- the end: bytes after the last condition are 9, at the first extra byte
-unfoldable pub readEnd : List ℕ → Reading → Read
+unfoldable pub readEnd : List ℕ → Reading → FileAnswer
 readEnd f (stopped number place) = refused number place
 readEnd f (reading at s p) = cond (eqb at (length f)) (program p) (refused 9 at)
 
@@ -141,5 +141,5 @@ readBody f (stopped number place) = stopped number place
 readBody f (reading at s p) = readThreads f (p .threads) 0 (reading at s p)
 
 -- THE READING OF A FILE
-unfoldable pub readFile : List ℕ → Read
+unfoldable pub readFile : List ℕ → FileAnswer
 readFile f = readEnd f (readQuestion f (readBody f (readHeader f)))

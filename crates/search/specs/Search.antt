@@ -4,7 +4,6 @@ use mathlib.Core.List.{List}
 use Prim.Native.Nat.{ℕ}
 use Rattle.program.specs.declared.Program.{Program}
 use Rattle.program.specs.Counts.{size}
-use Rattle.program.specs.File.{Read, refused, program, readFile}
 use Rattle.machine.specs.declared.Machine.{Machine}
 use Rattle.machine.specs.State.{fresh}
 use Rattle.step.specs.declared.Step.{Step}
