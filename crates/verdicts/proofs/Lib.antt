@@ -1,2 +1,3 @@
 pub mod Computed
 pub mod Table
+pub mod Litmus
