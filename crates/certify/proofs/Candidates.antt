@@ -14,7 +14,7 @@ use Rattle.program.specs.Program.{instrAt}
 use Rattle.program.proofs.Tests.{or-cases, or-left, or-right, and-left, and-right, and-both, eq→eqb}
 use Rattle.machine.specs.State.{messageAt}
 use Rattle.machine.specs.Rules.{address, combine, branchBy}
-use Rattle.certify.specs.Below.{Code, Operand, Constant, OfRegister, Instr, Compute, Load, Store, Branch, Fence, Message, Memory, Register, Thread}
+use Rattle.certify.specs.Below.{Code, Operand, Constant, OfRegister, Instr, Compute, Load, Store, Branch, Fence, Memory, Register, Thread}
 
 -- ---- sets of writes, as lists
 -- a location with a value

@@ -1,8 +1,8 @@
 -- `certified` passes exactly where a certifying run exists: the count of instructions that bounds the test is no limit.
 -- Assumes nothing.
 use mathlib.Core.Path.{_≡_, refl, sym, subst}
-use mathlib.Core.Logic.{_⊎_, ⊎-elim, _↔_}
-use mathlib.Core.Bool.{Bool, true, false, _&&_, _||_}
+use mathlib.Core.Logic.{⊎-elim, _↔_}
+use mathlib.Core.Bool.{Bool, true, false, _||_}
 use mathlib.Core.Option.{Option, none, some}
 use Prim.Native.Nat.{ℕ, zero, suc, _+_, _≤_, _<_}
 use native.Mathlib.Decide.{ℕ-discrete}
@@ -16,7 +16,7 @@ use Rattle.machine.specs.Rules.{Executed, refused, next, execute, addPromise}
 use Rattle.machine.proofs.Effects.{effect, moves}
 use Rattle.certify.specs.Below.{Code, Instr, Message, Memory, Thread}
 use Rattle.certify.specs.Certify.{anyFrom, messageOf, onward, ownMessage, oneMore, certify, certified}
-use Rattle.certify.specs.Runs.{Run, done, by, own, Certifying}
+use Rattle.certify.specs.Runs.{done, by, own, Certifying}
 
 -- ---- a number that passes
 -- where the test of numbers passes, one of them passes

@@ -12,12 +12,12 @@ use Rattle.machine.specs.State.{messageAt, append, has}
 use Rattle.machine.specs.Rules.{addPromise}
 use Rattle.machine.proofs.Sets.{has-positive, has-none, has-without, with-without}
 use Rattle.machine.proofs.Memories.{message-stays}
-use Rattle.machine.proofs.Effects.{storeLocation, Promised, Effect, computed, loaded, stored, branched, fenced, effect}
+use Rattle.machine.proofs.Effects.{Effect, computed, loaded, stored, branched, fenced, effect}
 use Rattle.certify.specs.Below.{Code, Instr, Message, Memory, Thread}
 use Rattle.certify.specs.Certify.{certify}
 use Rattle.certify.specs.Runs.{Run, done, by, own}
 use Rattle.certify.proofs.Certified.{run-of}
-use Rattle.certify.proofs.Fit.{Owned, owned, own-effect, own-leaves}
+use Rattle.certify.proofs.Fit.{Owned, owned, own-effect}
 
 -- the promise at time t is outstanding, and the coherence view of its location is at least t
 pub record Dead (t : ℕ) (m : Memory) (s : Thread) : Type 0 where

@@ -1,11 +1,11 @@
 -- The candidate law: a promise after which the thread is certified is a store that the thread could come to without views and promises.
 -- Assumes nothing.
 use mathlib.Core.Path.{_≡_, refl, sym, ap, ap₂, _∙_, subst, subst₂}
-use mathlib.Core.Logic.{_⊎_, ⊎-elim, _≢_}
-use mathlib.Core.Bool.{Bool, true, false, cond, _&&_, _||_}
+use mathlib.Core.Logic.{⊎-elim, _≢_}
+use mathlib.Core.Bool.{Bool, true, false, cond, _&&_}
 use mathlib.Core.List.{List, map}
 use mathlib.Core.Option.{Option, some}
-use Prim.Native.Nat.{ℕ, zero, suc, max, _+_, _^_, _≤_, _<_}
+use Prim.Native.Nat.{ℕ, zero, suc, _+_, _^_, _≤_, _<_}
 use native.Mathlib.Nat.{le-trans, le-max-right, mod-lt}
 use native.Mathlib.Decide.{ℕ-discrete}
 use native.Mathlib.Omega.{arith}
@@ -21,10 +21,10 @@ use Rattle.machine.specs.State.{messageAt, append, has, freshRegister, freshFor
 use Rattle.machine.specs.Rules.{valueOf, address, combine, branchBy, readable, readValue, readView, addPromise}
 use Rattle.machine.proofs.Sets.{has-positive, has-none, has-without, has-with, with-without}
 use Rattle.machine.proofs.Memories.{message-stays, message-new}
-use Rattle.machine.proofs.Effects.{loadLocation, loadPostView, storeLocation, Promised, Effect, computed, loaded, stored, branched, fenced, effect, moves}
+use Rattle.machine.proofs.Effects.{loadLocation, loadPostView, Effect, computed, loaded, stored, branched, fenced, effect, moves}
 use Rattle.certify.specs.Below.{Code, Operand, Constant, OfRegister, LoadMode, Instr, Message, Memory, Register, Forward, Thread}
 use Rattle.certify.specs.Certify.{certified}
-use Rattle.certify.specs.Runs.{Run, done, by, own, Certifying}
+use Rattle.certify.specs.Runs.{done, by, own, Certifying}
 use Rattle.certify.proofs.Certified.{certified-iff}
 use Rattle.certify.proofs.Fit.{Owned, owned, own-effect}
 use Rattle.certify.proofs.Dead.{Dead, dead-ends}

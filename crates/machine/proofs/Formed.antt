@@ -2,19 +2,19 @@
 -- Assumes nothing.
 use mathlib.Core.Path.{_≡_, refl, sym, ap, _∙_, subst}
 use mathlib.Core.Logic.{_↔_}
-use mathlib.Core.Bool.{Bool, cond, _&&_}
+use mathlib.Core.Bool.{Bool, _&&_}
 use mathlib.Core.List.{List}
 use Prim.Native.Nat.{ℕ, zero, suc, _-_, _^_, _≤_, _<_, zero-le}
 use native.Mathlib.Nat.{not-suc-le-zero}
 use native.Mathlib.Decide.{decLt}
 use native.Mathlib.Omega.{arith}
-use lib.Dec.{T, eqb, leb, ltb, eqb→eq, leb→le, le→leb, ltb→lt, lt→ltb, nltb→le, not-T}
+use lib.Dec.{T, eqb, leb, eqb→eq, leb→le, le→leb, ltb→lt, lt→ltb}
 use lib.ListN.{length, getD, replicate, length-replicate, getD-replicate, List·getD-eq-default}
 use lib.Seq.{ext-getD}
 use Rattle.views.specs.Views.{viewAt}
 use Rattle.program.specs.Tests.{allOf, below}
 use Rattle.program.specs.Program.{codeOf}
-use Rattle.program.proofs.Tests.{and-left, and-right, and-both, eq→eqb, implied, implies, cond-true, cond-false, cond-both, end, also, all-each, all-at, below-at, below-all}
+use Rattle.program.proofs.Tests.{and-left, and-right, and-both, eq→eqb, implied, implies, end, also, all-each, all-at, below-at, below-all, below-used, below-spare, below-both}
 use Rattle.machine.specs.Below.{Code, Program}
 use Rattle.machine.specs.State.{Message, Memory, Register, Forward, Views, Thread, Machine, noMessage, freshRegister, freshForward, freshViews, freshThread, threadOf, messageAt, has}
 use Rattle.machine.specs.WellFormed.{messageTest, unusedMessage, memoryTest, viewsTest, ownTest, threadTest, unusedThread, machineTest}
@@ -87,17 +87,6 @@ times : (P : ℕ → Type 0) (n : ℕ) → ((k : ℕ) → k < n → P (suc k)) �
 times P n h zero a b = absurd (not-suc-le-zero a)
 times P n h (suc k) a b = h k b
 
--- ---- tests of the places below n: f before place b, g from there on
-module _ (f g : ℕ → Bool) (b n : ℕ) where
-  before : b ≤ n → T (below (λ k. cond (ltb k b) (f k) (g k)) n) → (k : ℕ) → k < b → T (f k)
-  before l h k a = cond-true (ltb k b) (f k) (g k) (lt→ltb k b a) (below-at _ n h k (omega arith))
-
-  after : T (below (λ k. cond (ltb k b) (f k) (g k)) n) → (k : ℕ) → k < n → b ≤ k → T (g k)
-  after h k l a = cond-false (ltb k b) (f k) (g k) (λ t. let q = ltb→lt k b t in omega arith) (below-at _ n h k l)
-
-  both : ((k : ℕ) → k < b → T (f k)) → ((k : ℕ) → b ≤ k → T (g k)) → T (below (λ k. cond (ltb k b) (f k) (g k)) n)
-  both h j = below-all _ n (λ k l. cond-both (ltb k b) (f k) (g k) (λ t. h k (ltb→lt k b t)) (λ t. j k (nltb→le k b (not-T (ltb k b) t))))
-
 -- ---- memory
 message-at : (n : ℕ) (w : Message) → T (messageTest n w) → MessageOk n w
 unfolding messageTest
@@ -130,9 +119,9 @@ module _ (n : ℕ) (m : Memory) where
       record {
         room = few;
         places = full;
-        messages = times (λ t. MessageOk n (messageAt m t)) (m .count) (λ k l. message-at n (messageAt m (suc k)) (before _ _ (m .count) 16 few (q 2) k l));
+        messages = times (λ t. MessageOk n (messageAt m t)) (m .count) (λ k l. message-at n (messageAt m (suc k)) (below-used _ _ (m .count) 16 few (q 2) k l));
         unused = past noMessage (m .messages) 16 full (λ k w. m .count ≤ k → w ≡ noMessage) (λ k l. refl)
-            (λ k l g. sym (message-place m k) ∙ no-message (messageAt m (suc k)) (after _ _ (m .count) 16 (q 2) k l g));
+            (λ k l g. sym (message-place m k) ∙ no-message (messageAt m (suc k)) (below-spare _ _ (m .count) 16 (q 2) k l g));
       }
 
   memory-of : MemoryOk n m → T (memoryTest n m)
@@ -141,7 +130,7 @@ module _ (n : ℕ) (m : Memory) where
       all-each (
       also (le→leb (m .count) 16 (o .room))
       (also (eq→eqb (o .places))
-      (also (both _ _ (m .count) 16 (λ k l. message-of n (messageAt m (suc k)) (o .messages (suc k) (omega arith) l)) (λ k l. subst (λ (w : Message). T (unusedMessage w)) (sym (message-place m k ∙ o .unused k l)) no-message-test))
+      (also (below-both _ _ (m .count) 16 (λ k l. message-of n (messageAt m (suc k)) (o .messages (suc k) (omega arith) l)) (λ k l b. subst (λ (w : Message). T (unusedMessage w)) (sym (message-place m k ∙ o .unused k l)) no-message-test))
       end))
       )
 
@@ -258,8 +247,8 @@ module _ (p : Program) (x : Machine) where
       record {
         memory-ok = memory-at (p .threads) (x .memory) (q 0);
         four = full;
-        states = λ i l. thread-at (codeOf p i) i (x .memory) (threadOf x i) (before _ _ (p .threads) 4 few (q 2) i l);
-        unused = past freshThread (x .threads) 4 full (λ i s. p .threads ≤ i → s ≡ freshThread) (λ i l. refl) (λ i l g. unused-thread (threadOf x i) (after _ _ (p .threads) 4 (q 2) i l g));
+        states = λ i l. thread-at (codeOf p i) i (x .memory) (threadOf x i) (below-used _ _ (p .threads) 4 few (q 2) i l);
+        unused = past freshThread (x .threads) 4 full (λ i s. p .threads ≤ i → s ≡ freshThread) (λ i l. refl) (λ i l g. unused-thread (threadOf x i) (below-spare _ _ (p .threads) 4 (q 2) i l g));
       }
 
   machine-of : MachineOk p x → T (machineTest p x)
@@ -268,7 +257,7 @@ module _ (p : Program) (x : Machine) where
       all-each (
       also (memory-of (p .threads) (x .memory) (o .memory-ok))
       (also (eq→eqb (o .four))
-      (also (both _ _ (p .threads) 4 (λ i l. thread-of (codeOf p i) i (x .memory) (threadOf x i) (o .states i l)) (λ i l. subst (λ (s : Thread). T (unusedThread s)) (sym (o .unused i l)) fresh-test)) end))
+      (also (below-both _ _ (p .threads) 4 (λ i l. thread-of (codeOf p i) i (x .memory) (threadOf x i) (o .states i l)) (λ i l b. subst (λ (s : Thread). T (unusedThread s)) (sym (o .unused i l)) fresh-test)) end))
       )
 
 -- THE MACHINE'S TEST

@@ -2,24 +2,23 @@
 -- Assumes nothing.
 use mathlib.Core.Path.{_≡_, refl, sym, ap, _∙_, subst}
 use mathlib.Core.Logic.{⊎-elim}
-use mathlib.Core.Bool.{Bool, true, false, cond, _&&_}
+use mathlib.Core.Bool.{Bool, true, false, cond}
 use mathlib.Core.Option.{some}
 use Prim.Native.Nat.{ℕ, suc, _+_, _^_, _≤_, _<_, zero-le}
 use native.Mathlib.Decide.{ℕ-discrete, decLt}
 use native.Mathlib.Omega.{arith}
-use lib.Dec.{T, eqb, leb, eqb→eq, leb→le}
+use lib.Dec.{T, eqb}
 use lib.ListN.{length, getD, set, length-set}
 use lib.Pow.{pow-pos}
 use lib.Seq.{getD-set-same, getD-set-other}
 use Rattle.views.proofs.Entries.{set-all, replicate-all}
 use Rattle.views.proofs.Merging.{length-raise, raise-below}
 use Rattle.program.specs.Program.{instrAt, codeOf}
-use Rattle.program.proofs.Tests.{or-cases, and-left}
 use Rattle.program.proofs.Counts.{there}
 use Rattle.program.proofs.Formed.{CodeOk, ProgramOk}
 use Rattle.machine.specs.Below.{Code, Program, Operand, Constant, OfRegister, LoadMode, PlainLoad, Acquire, WeakAcquire, StoreMode, PlainStore, Release, FenceMode, DmbSy, DmbLd, DmbSt, Isb, Instr}
 use Rattle.machine.specs.State.{Message, Memory, Register, Forward, Views, Thread, Machine, noMessage, freshMemory, freshRegister, freshForward, freshThread, fresh, threadOf, messageAt, append, has, with, without, raiseCap, withPosition, withRegister, raiseCoherence, withForward, withViews, withPromises}
-use Rattle.machine.specs.Rules.{valueOf, viewOf, viewOf₂, branchBy, loadPre, readable, readView, loadViews, storeViews, fenceViews, addPromise}
+use Rattle.machine.specs.Rules.{valueOf, viewOf, viewOf₂, branchBy, loadPre, readView, loadViews, storeViews, fenceViews, addPromise}
 use Rattle.machine.proofs.Sets.{has-positive, has-none, has-time, has-removed, has-added, without-small, with-small, grown-small}
 use Rattle.machine.proofs.Memories.{message-stays, message-new}
 use Rattle.machine.proofs.Effects.{readable-time, loadLocation, loadPostView, storeLocation, Effect, computed, loaded, stored, branched, fenced}

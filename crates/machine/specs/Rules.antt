@@ -1,14 +1,14 @@
 -- The rules: what executing one instruction at a time makes of a thread, or the number that refuses it.
 -- Assumes nothing.
 use mathlib.Core.Bool.{Bool, true, false, not, cond, _&&_, _||_}
-use Prim.Native.Nat.{ℕ, zero, suc, max, _+_, _-_, _%_}
+use Prim.Native.Nat.{ℕ, suc, max, _+_, _-_, _%_}
 use lib.Dec.{eqb, leb, ltb}
 use lib.Bits.{bitXor}
 use lib.ListN.{getD}
 use Rattle.views.specs.Views.{viewAt}
 use Rattle.program.specs.Tests.{below}
 use Rattle.machine.specs.Below.{Operand, Constant, OfRegister, ComputeMode, Add, Subtract, ExclusiveOr, Equal, LoadMode, PlainLoad, Acquire, WeakAcquire, StoreMode, PlainStore, Release, FenceMode, DmbSy, DmbLd, DmbSt, Isb, Instr, Compute, Load, Store, Branch, Fence}
-use Rattle.machine.specs.State.{Message, Memory, Register, Forward, Views, Thread, freshRegister, freshForward, messageAt, append, has, with, without, raiseROld, raiseWOld, raiseRNew, raiseWNew, raiseCap, raiseRel, withPosition, withRegister, raiseCoherence, withForward, withViews, withPromises}
+use Rattle.machine.specs.State.{Memory, Views, Thread, freshRegister, freshForward, messageAt, has, with, without, raiseROld, raiseWOld, raiseRNew, raiseWNew, raiseCap, raiseRel, withPosition, withRegister, raiseCoherence, withForward, withViews, withPromises}
 
 -- the answer of a rule: a refusal number, or the thread's next state
 pub data Executed : Type 0 where

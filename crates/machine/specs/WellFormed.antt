@@ -1,7 +1,7 @@
 -- Well formed: a machine of a program, as refusal 20 asks.
 -- Assumes nothing.
-use mathlib.Core.Bool.{Bool, true, not, cond, _&&_, _||_}
-use mathlib.Core.List.{List, [], _∷_}
+use mathlib.Core.Bool.{Bool, not, cond, _&&_, _||_}
+use mathlib.Core.List.{[], _∷_}
 use Prim.Native.Nat.{ℕ, suc, _^_}
 use lib.Dec.{eqb, leb, ltb}
 use lib.ListN.{length, getD}
@@ -9,7 +9,7 @@ use Rattle.views.specs.Views.{viewAt}
 use Rattle.program.specs.Tests.{allOf, below}
 use Rattle.program.specs.Program.{codeOf}
 use Rattle.machine.specs.Below.{Code, Program}
-use Rattle.machine.specs.State.{Message, Memory, Register, Forward, Views, Thread, Machine, freshRegister, freshForward, threadOf, messageAt, has}
+use Rattle.machine.specs.State.{Message, Memory, Views, Thread, Machine, freshRegister, freshForward, threadOf, messageAt, has}
 
 -- a message has a location below 16 and an existing thread
 unfoldable pub messageTest : ℕ → Message → Bool

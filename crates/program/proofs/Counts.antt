@@ -2,12 +2,12 @@
 -- Assumes nothing.
 use mathlib.Core.Path.{_≡_, refl, sym, ap, ap₂, _∙_, subst}
 use mathlib.Core.Bool.{Bool, true, false, cond}
-use mathlib.Core.Option.{Option, none, some}
+use mathlib.Core.Option.{none, some}
 use Prim.Native.Nat.{ℕ, zero, suc, _+_, _-_, _≤_, _<_}
 use native.Mathlib.Nat.{not-suc-le-zero, le-refl}
 use native.Mathlib.Decide.{ℕ-discrete, decLt}
 use native.Mathlib.Omega.{arith}
-use lib.Dec.{T, eqb, ltb, ltb→lt}
+use lib.Dec.{eqb, ltb}
 use borrow.Author.Tests.{ltb-true, ne-eqb}
 use Rattle.program.specs.Tests.{sumBelow}
 use Rattle.program.specs.Program.{Instruction, Code, Instr, Compute, Load, Store, Branch, Fence, operand, computeMode, loadMode, storeMode, fenceMode, decode, instructionAt, instrAt}
@@ -60,6 +60,15 @@ module _ (f g : ℕ → ℕ) where
           let r = rec (omega arith) (λ k l'. h k (omega arith)) in
           let b = h n (omega arith) in
           omega arith
+
+sum-next : {k : ℕ} (f : ℕ → ℕ) (n : ℕ) → k ≤ sumBelow f n → k ≤ sumBelow f (suc n)
+unfolding sumBelow
+sum-next f n h = omega arith
+
+-- a longer sum is no smaller
+pub sum-grows : (f : ℕ → ℕ) (i d : ℕ) → sumBelow f i ≤ sumBelow f (i + d)
+sum-grows f i zero = let e : i ≡ i + 0 = omega arith in subst (λ (n : ℕ). sumBelow f i ≤ sumBelow f n) e (le-refl _)
+sum-grows f i (suc d) = let e : suc (i + d) ≡ i + suc d = omega arith in subst (λ (n : ℕ). sumBelow f i ≤ sumBelow f n) e (sum-next f (i + d) (sum-grows f i d))
 
 -- ---- an instruction that is there
 pub there : (c : Code) (n : ℕ) (x : Instr) → instrAt c n ≡ some x → (n < c .count) × (decode (instructionAt c n) ≡ x)

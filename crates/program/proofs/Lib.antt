@@ -1,3 +1,11 @@
 pub mod Tests
 pub mod Counts
 pub mod Formed
+pub mod First
+pub mod Places
+pub mod Shape
+pub mod ReadBack
+pub mod Filled
+pub mod ReadThreads
+pub mod ReadFormed
+pub mod Reader

@@ -8,7 +8,7 @@ use Prim.Native.Nat.{ℕ, zero, suc, _≤_, _<_}
 use native.Mathlib.Nat.{not-suc-le-zero}
 use native.Mathlib.Decide.{ℕ-discrete}
 use native.Mathlib.Omega.{arith}
-use lib.Dec.{T, eqb, eqb-refl}
+use lib.Dec.{T, eqb, ltb, eqb-refl, ltb→lt, lt→ltb, nltb→le, not-T}
 use lib.ListN.{getD}
 use Rattle.program.specs.Tests.{allOf, below}
 
@@ -102,3 +102,14 @@ pub below-all : (f : ℕ → Bool) (n : ℕ) → ((k : ℕ) → k < n → T (f k
 unfolding below
 below-all f zero h = tt
 below-all f (suc n) h = and-both (f n) (below f n) (h n (omega arith)) (below-all f n (λ k l. h k (omega arith)))
+
+-- places below b pass f, those from b on pass g
+module _ (f g : ℕ → Bool) (b n : ℕ) where
+  pub below-used : b ≤ n → T (below (λ k. cond (ltb k b) (f k) (g k)) n) → (k : ℕ) → k < b → T (f k)
+  below-used l h k a = cond-true (ltb k b) (f k) (g k) (lt→ltb k b a) (below-at _ n h k (omega arith))
+
+  pub below-spare : T (below (λ k. cond (ltb k b) (f k) (g k)) n) → (k : ℕ) → k < n → b ≤ k → T (g k)
+  below-spare h k l a = cond-false (ltb k b) (f k) (g k) (λ t. let q = ltb→lt k b t in omega arith) (below-at _ n h k l)
+
+  pub below-both : ((k : ℕ) → k < b → T (f k)) → ((k : ℕ) → b ≤ k → k < n → T (g k)) → T (below (λ k. cond (ltb k b) (f k) (g k)) n)
+  below-both h j = below-all _ n (λ k l. cond-both (ltb k b) (f k) (g k) (λ t. h k (ltb→lt k b t)) (λ t. j k (nltb→le k b (not-T (ltb k b) t)) l))

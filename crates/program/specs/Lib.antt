@@ -3,3 +3,4 @@ pub mod Program
 pub mod Counts
 pub mod WellFormed
 pub mod File
+pub mod Encode

@@ -1,26 +1,24 @@
 -- What the list of sequences and the answer are: the list is all accepted sequences in order, the only such list, and demand 3 holds over it.
 -- Assumes nothing.
-use mathlib.Core.Path.{_≡_, refl, ap, sym, subst}
+use mathlib.Core.Path.{_≡_, subst}
 use mathlib.Core.List.{List, [], _∷_}
-use mathlib.Core.Option.{Option, none, some}
+use mathlib.Core.Option.{some}
 use Prim.Native.Nat.{ℕ, _≤_}
-use native.Mathlib.Nat.{le-refl}
 use native.Mathlib.Omega.{arith}
 use lib.ListN.{length}
 use Rattle.program.specs.declared.Program.{Program}
 use Rattle.program.specs.Counts.{size}
 use Rattle.machine.specs.declared.Machine.{Machine}
 use Rattle.machine.specs.State.{fresh}
-use Rattle.sequences.specs.Stepping.{Stepping}
-use Rattle.sequences.specs.Sequences.{Accepted, Listed, run, upto, wanted}
+use Rattle.sequences.specs.Sequences.{Accepted, Listed, run, wanted}
 use Rattle.sequences.specs.Answer.{Answer, allowed, forbidden, answer}
 use Rattle.sequences.specs.Demand.{Demand}
 use Rattle.sequences.proofs.Listed.{first-step}
 use Rattle.sequences.proofs.Listed as lists
 use Rattle.sequences.proofs.Meets as answers
 use Rattle.step.specs.declared.Step.{Step}
-use Rattle.step.specs.Step.{step, taken}
-use Rattle.step.specs.Reached.{Reached, start, on}
+use Rattle.step.specs.Step.{step}
+use Rattle.step.specs.Reached.{Reached, on}
 use Rattle.step.proofs.Bound.{potential, potential-fresh}
 use Rattle.search.specs.Search.{stepping, sequencesOf, answerTo}
 use Rattle.search.proofs.Machine.{taken-accepted, lawful}

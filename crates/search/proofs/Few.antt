@@ -1,10 +1,9 @@
 -- The steps worth trying: executions up to the newest time, and promises of candidates. The answer over them is the answer over all steps.
 -- Assumes nothing.
-use mathlib.Core.Path.{_≡_, refl, sym, ap, ap₂, _∙_, subst, subst₂}
-use mathlib.Core.Logic.{_⊎_, inl, inr, ⊎-elim}
+use mathlib.Core.Path.{_≡_, refl, sym, ap, ap₂, subst, subst₂}
+use mathlib.Core.Logic.{inl, inr, ⊎-elim}
 use mathlib.Core.Bool.{Bool, true, false, _&&_}
 use mathlib.Core.List.{List, [], _∷_, _++_, map}
-use mathlib.Core.Option.{Option, some}
 use Prim.Native.Nat.{ℕ, suc, min, _+_, _*_, _/_, _%_, _≤_, _<_}
 use native.Mathlib.Omega.{arith}
 use lib.Dec.{T, eqb, ltb, eqb→eq, ltb→lt, lt→ltb}
@@ -19,13 +18,12 @@ use Rattle.machine.proofs.Effects.{effect-time}
 use Rattle.machine.proofs.Formed.{MachineOk}
 use Rattle.certify.proofs.Candidates.{Write, isIn, candidates}
 use Rattle.certify.proofs.Law.{candidate-law}
-use Rattle.sequences.specs.Sequences.{Among, Ascending, branches, wanted}
-use Rattle.sequences.specs.Answer.{Answer}
+use Rattle.sequences.specs.Sequences.{Among, Ascending, branches}
 use Rattle.sequences.proofs.Ordered.{among-left, among-right, among-cases, among-map, among-unmap, ascending-append}
 use Rattle.sequences.proofs.Scan.{told}
 use Rattle.sequences.proofs.Fewer.{hunt, hunt-answer, rising-same}
 use Rattle.step.specs.declared.Step.{Step}
-use Rattle.step.specs.Step.{accepted, step, taken}
+use Rattle.step.specs.Step.{accepted, step}
 use Rattle.step.specs.Order.{Less, range, forEach, execution, promise, everyStep}
 use Rattle.step.proofs.Backwards.{Did, executed, promised, did}
 use Rattle.step.proofs.Bound.{well-formed}

@@ -1,8 +1,8 @@
 -- A quick way to compute an answer: over the steps worth trying, by the rules alone. It gives the answer.
 -- Assumes nothing.
-use mathlib.Core.Path.{_≡_, refl, sym, ap, _∙_}
-use mathlib.Core.Bool.{Bool, _&&_}
-use mathlib.Core.Option.{Option, some}
+use mathlib.Core.Path.{_≡_, sym, ap, _∙_}
+use mathlib.Core.Bool.{_&&_}
+use mathlib.Core.Option.{Option}
 use Prim.Native.Nat.{ℕ}
 use lib.Dec.{T}
 use Rattle.program.specs.declared.Program.{Program}
@@ -13,11 +13,11 @@ use Rattle.machine.specs.declared.Machine.{Machine}
 use Rattle.machine.specs.State.{fresh}
 use Rattle.machine.specs.WellFormed.{machineTest}
 use Rattle.sequences.specs.Answer.{Answer}
-use Rattle.sequences.proofs.Scan.{Scan, told}
+use Rattle.sequences.proofs.Scan.{told}
 use Rattle.sequences.proofs.Fewer.{hunt}
 use Rattle.sequences.proofs.Alike.{stepped-by, hunt-alike}
 use Rattle.step.specs.declared.Step.{Step}
-use Rattle.step.specs.Step.{check, ruleStep, step, taken}
+use Rattle.step.specs.Step.{ruleStep, step, taken}
 use Rattle.step.proofs.OwnPromise.{check-yes}
 use Rattle.step.proofs.Kept.{fresh-formed, kept}
 use Rattle.search.specs.Search.{stepping, answerTo}

@@ -3,7 +3,7 @@
 use mathlib.Core.Path.{_≡_, refl, sym, subst}
 use mathlib.Core.Bool.{Bool, true, false, _&&_}
 use mathlib.Core.Option.{Option, none, some}
-use Prim.Native.Nat.{ℕ, zero, suc, _+_, _≤_, _<_}
+use Prim.Native.Nat.{ℕ, zero, suc, _<_}
 use native.Mathlib.Omega.{arith}
 use lib.Dec.{T, eqb, leb, ltb, eqb→eq, leb→le, ltb→lt}
 use lib.ListN.{set}
@@ -15,7 +15,7 @@ use Rattle.machine.specs.Rules.{Executed, refused, next, execute, addPromise}
 use Rattle.machine.specs.WellFormed.{machineTest}
 use Rattle.machine.proofs.Effects.{Effect, effect}
 use Rattle.certify.specs.Certify.{certified}
-use Rattle.step.specs.Below.{Program, Instr, Message, Memory, Thread, Machine}
+use Rattle.step.specs.Below.{Program, Instr, Memory, Thread, Machine}
 use Rattle.step.specs.Step.{Step, Stepped, rejected, accepted, check, settle, settleRule, executeInstr, executeStep, promiseStep, kindStep, ruleStep, step}
 
 -- the machine with thread i at s, on memory m

@@ -1,7 +1,6 @@
 -- The fresh machine is well formed, and an accepted step keeps a machine well formed.
 -- Assumes nothing.
 use mathlib.Core.Path.{_≡_}
-use Prim.Native.Nat.{ℕ}
 use lib.Dec.{T}
 use Rattle.program.specs.WellFormed.{programTest}
 use Rattle.program.proofs.Formed.{ProgramOk, program-ok}

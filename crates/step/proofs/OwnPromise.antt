@@ -1,10 +1,10 @@
 -- From the fresh machine, a load of one of the thread's own outstanding promises that passes 26 and 27 is refused by 29.
 -- Assumes nothing.
 use mathlib.Core.Path.{_≡_, refl, sym, ap, _∙_, subst}
-use mathlib.Core.Logic.{_⊎_, ⊎-elim}
+use mathlib.Core.Logic.{⊎-elim}
 use mathlib.Core.Bool.{Bool, true, false, cond, _&&_}
 use mathlib.Core.Option.{some}
-use Prim.Native.Nat.{ℕ, max, _+_, _%_, _≤_, _<_}
+use Prim.Native.Nat.{ℕ, max, _≤_, _<_}
 use native.Mathlib.Omega.{arith}
 use lib.Dec.{T, eqb, leb, ltb, eqb→eq, leb→le, lt→ltb}
 use lib.ListN.{length, getD}
@@ -14,13 +14,13 @@ use Rattle.views.proofs.Merging.{raise-reaches}
 use Rattle.program.specs.Program.{instrAt, codeOf}
 use Rattle.program.specs.WellFormed.{programTest}
 use Rattle.program.proofs.Tests.{or-cases, and-left, and-right, and-both}
-use Rattle.program.proofs.Formed.{ProgramOk, program-ok}
+use Rattle.program.proofs.Formed.{program-ok}
 use Rattle.machine.specs.State.{freshForward, freshThread, fresh, threadOf, messageAt, has}
-use Rattle.machine.specs.Rules.{Executed, next, test, valueOf, viewOf₂, address, loadPre, readable, noneNewer, readView, loadDone, loadAt, execute}
+use Rattle.machine.specs.Rules.{Executed, next, test, viewOf₂, readable, noneNewer, readView, loadDone, loadAt, execute}
 use Rattle.machine.specs.WellFormed.{machineTest}
 use Rattle.machine.proofs.Sets.{has-none, has-removed, has-added}
 use Rattle.machine.proofs.Effects.{loadLocation, loadPreView, loadPostView, Effect, computed, loaded, stored, branched, fenced}
-use Rattle.machine.proofs.Formed.{ThreadOk, MachineOk, machine-iff}
+use Rattle.machine.proofs.Formed.{MachineOk, machine-iff}
 use Rattle.certify.specs.Certify.{certified}
 use Rattle.certify.proofs.Dead.{Dead, dead-run}
 use Rattle.step.specs.Below.{Program, Operand, LoadMode, Instr, Load, Memory, Forward, Thread, Machine}

@@ -3,29 +3,28 @@
 use mathlib.Core.Path.{_≡_, refl, sym, ap, _∙_, subst}
 use mathlib.Core.Bool.{Bool, true, false, _&&_}
 use mathlib.Core.Option.{some}
-use Prim.Native.Nat.{ℕ, zero, suc, _+_, _-_, _≤_, _<_}
+use Prim.Native.Nat.{ℕ, suc, _+_, _≤_, _<_}
 use native.Mathlib.Decide.{ℕ-discrete}
 use native.Mathlib.Omega.{arith}
-use lib.Count.{ones}
 use lib.Dec.{T, eqb, leb, ltb, ltb→lt, not-T, nltb→le}
 use Rattle.program.specs.Tests.{sumBelow}
 use Rattle.program.specs.Program.{instrAt, codeOf}
 use Rattle.program.specs.Counts.{storesFrom, stores}
 use Rattle.program.specs.WellFormed.{programTest}
-use Rattle.program.proofs.Tests.{and-left, and-right}
-use Rattle.program.proofs.Counts.{sum-same, sum-le, sum-one}
+use Rattle.program.proofs.Tests.{and-left}
+use Rattle.program.proofs.Counts.{sum-same, sum-one}
 use Rattle.program.proofs.Formed.{ProgramOk, program-ok}
 use Rattle.machine.specs.State.{freshThread, fresh, threadOf}
 use Rattle.machine.specs.WellFormed.{machineTest}
 use Rattle.machine.proofs.Sets.{ones-none}
 use Rattle.machine.proofs.Effects.{Effect}
-use Rattle.machine.proofs.Formed.{MachineOk, machine-iff}
+use Rattle.machine.proofs.Formed.{MachineOk}
 use Rattle.certify.specs.Certify.{certified}
 use Rattle.certify.specs.Runs.{Run, Unlimited}
 use Rattle.certify.proofs.Certified.{certified-iff}
 use Rattle.certify.proofs.Fit.{outstanding, fits, promises-fit, unlimited-is-certifying}
 use Rattle.step.specs.Below.{Code, Program, Instr, Memory, Thread, Machine}
-use Rattle.step.specs.Step.{Step, Stepped, rejected, accepted, check, settle, promiseStep, kindStep, ruleStep, step}
+use Rattle.step.specs.Step.{Step, Stepped, rejected, check, settle, promiseStep, kindStep, ruleStep, step}
 use Rattle.step.specs.Order.{promise}
 use Rattle.step.specs.Reached.{Reached, start, on}
 use Rattle.step.proofs.Backwards.{moved, promisedMemory, promisedThread, Did, executed, promised, did}

@@ -11,7 +11,7 @@ use Rattle.machine.specs.State.{threadOf, append}
 use Rattle.machine.specs.Rules.{Executed, refused, next, execute, addPromise}
 use Rattle.machine.specs.WellFormed.{machineTest}
 use Rattle.certify.specs.Certify.{certified}
-use Rattle.step.specs.Below.{Program, Instr, Message, Memory, Thread, Machine}
+use Rattle.step.specs.Below.{Program, Instr, Memory, Thread, Machine}
 pub use Rattle.step.specs.declared.Step.{Step}
 
 -- the answer of a step: a refusal number, or the next machine

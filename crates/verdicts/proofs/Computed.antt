@@ -3,7 +3,6 @@
 use mathlib.Core.Path.{_≡_, refl, sym, ap₂, _∙_}
 use mathlib.Core.Bool.{Bool, true, _&&_}
 use mathlib.Core.List.{List, [], _∷_, map}
-use Prim.Native.Nat.{ℕ}
 use lib.Dec.{T}
 use Rattle.program.specs.Tests.{allOf, below, sumBelow}
 use Rattle.program.specs.Program.{operand, computeMode, loadMode, storeMode, fenceMode, decode, instrAt, codeOf}

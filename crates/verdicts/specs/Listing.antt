@@ -1,6 +1,6 @@
 -- Programs written down as a listing.
 -- Assumes nothing.
-use mathlib.Core.List.{List, [], _∷_, _++_, map}
+use mathlib.Core.List.{List, _++_, map}
 use Prim.Native.Nat.{ℕ, _-_}
 use lib.ListN.{length, replicate}
 use Rattle.program.specs.declared.Instruction.{Instruction}

@@ -1,7 +1,6 @@
 -- Litmus tests with known verdicts, with the place of the sequence that shows an outcome, or the number of all sequences. Locations x = 0, y = 1, z = 2.
 -- Assumes nothing.
 use mathlib.Core.List.{List, [], _∷_, _++_}
-use Prim.Native.Nat.{ℕ}
 use Rattle.program.specs.declared.Instruction.{Instruction}
 use Rattle.program.specs.declared.Condition.{Condition}
 use Rattle.step.specs.declared.Step.{Step}

@@ -1,13 +1,13 @@
 -- View merging, for lists of views of any length: each law is proved once, and says nothing of how many locations there are.
 -- Assumes nothing.
-use mathlib.Core.Path.{_≡_, refl, sym, ap, _∙_, subst}
+use mathlib.Core.Path.{_≡_, refl, sym, ap, subst}
 use mathlib.Core.Logic.{_≢_}
 use mathlib.Core.List.{List, [], _∷_}
 use Prim.Native.Nat.{ℕ, zero, suc, max, _≤_, _<_}
-use native.Mathlib.Nat.{le-refl, le-trans, le-max-left, le-max-right}
+use native.Mathlib.Nat.{le-refl, le-max-left, le-max-right}
 use native.Mathlib.Omega.{arith}
-use lib.ListN.{length, getD, set, length-set}
-use lib.Seq.{getD-set-same, getD-set-other, set-set, set-comm}
+use lib.ListN.{length, length-set}
+use lib.Seq.{getD-set-same, getD-set-other}
 use Rattle.views.specs.Views.{viewAt, raiseAt}
 use Rattle.views.proofs.Entries.{set-all}
 
