@@ -3,3 +3,4 @@ pub mod Fit
 pub mod Dead
 pub mod Candidates
 pub mod Law
+pub mod Trying

@@ -1,3 +1,4 @@
 pub mod Below
 pub mod Certify
 pub mod Runs
+pub mod Answers

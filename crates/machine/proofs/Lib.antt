@@ -4,3 +4,6 @@ pub mod Effects
 pub mod Formed
 pub mod Kept
 pub mod Independent
+pub mod Words
+pub mod Newest
+pub mod Cases

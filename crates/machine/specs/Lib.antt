@@ -2,3 +2,5 @@ pub mod Below
 pub mod State
 pub mod Rules
 pub mod WellFormed
+pub mod Promises
+pub mod Answers

@@ -1,4 +1,14 @@
 // The machine by value: messages, memory, a thread's state with its views, four threads. Times and views are bytes.
+pub mod answers;
+pub mod loads;
+pub mod merge;
+pub mod messages;
+pub mod operands;
+pub mod plain;
+pub mod promises;
+pub mod rules;
+pub mod stores;
+pub mod threads;
 
 // A message of memory: a store of `thread`.
 pub struct Message {
@@ -47,4 +57,16 @@ pub struct Thread {
 pub struct Machine {
     pub memory: Memory,
     pub threads: [Thread; 4],
+}
+
+// The answer of a rule: the instruction is executed, or the number that refuses it.
+pub enum RuleAnswer {
+    Done,
+    Refused(u8),
+}
+
+// The answer, and the thread's state after it; a refused thread is as it was.
+pub struct Ruled {
+    pub answer: RuleAnswer,
+    pub thread: Thread,
 }

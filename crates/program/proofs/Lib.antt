@@ -9,3 +9,4 @@ pub mod Filled
 pub mod ReadThreads
 pub mod ReadFormed
 pub mod Reader
+pub mod Arrays

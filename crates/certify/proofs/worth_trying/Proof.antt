@@ -1,0 +1,69 @@
+-- `certify::worth_trying` meets its contract: one law for each instruction.
+-- Assumes nothing.
+use Rattle.certify.proofs.Trying.{load-only, store-only, compute-only, branch-only, fence-only}
+use borrow.Author.Needs.{needs}
+use Rattle.certify.proofs.worth_trying.Statement.{statement}
+use Rattle.certify.proofs.worth_trying.Tie as tie
+use Rattle.certify.proofs.worth_trying.Reads as reads
+use Rattle.certify.proofs.worth_trying.Lts as lts
+use Rattle.machine.proofs.promises.first.Reads as first-reads
+
+-- src/lib.rt:34:36
+enum-told : tie.Need-enum-told
+enum-told c = search needs
+
+-- src/lib.rt:39:20
+enum-told-2 : tie.Need-enum-told-2
+enum-told-2 c = search needs
+
+-- src/lib.rt:39:20
+first-requires : tie.Need-first-requires
+first-requires c κs = search needs
+
+-- src/lib.rt:42:39
+enum-told-3 : tie.Need-enum-told-3
+enum-told-3 c = search needs
+
+-- src/lib.rt:43:35
+enum-told-4 : tie.Need-enum-told-4
+enum-told-4 c = search needs
+
+-- src/lib.rt:44:28
+enum-told-5 : tie.Need-enum-told-5
+enum-told-5 c = search needs
+
+-- src/lib.rt:29:1
+returns : tie.Need-returns
+returns c = rw (c .enum-told .given .1) (load-only _ _ _ _ _ _)
+
+-- src/lib.rt:29:1
+returns-2 : tie.Need-returns-2
+returns-2 c = rw (c .before .enum-told2 .given .1) (store-only _ _ _ _ _ _ (c .first .ensures))
+
+-- src/lib.rt:29:1
+returns-3 : tie.Need-returns-3
+returns-3 c = rw (c .enum-told3 .given .1) (compute-only _ _ _ _ _ _)
+
+-- src/lib.rt:29:1
+returns-4 : tie.Need-returns-4
+returns-4 c = rw (c .enum-told4 .given .1) (branch-only _ _ _ _ _)
+
+-- src/lib.rt:29:1
+returns-5 : tie.Need-returns-5
+returns-5 c = rw (c .enum-told5 .given .1) (fence-only _ _ _)
+
+pub worth-trying-spec : {M : Type 1} → statement M
+worth-trying-spec =
+    tie.close
+    (tie.spec
+    enum-told
+    enum-told-2
+    first-requires
+    enum-told-3
+    enum-told-4
+    enum-told-5
+    returns
+    returns-2
+    returns-3
+    returns-4
+    returns-5)

@@ -1,0 +1,48 @@
+-- The answer of a rule, for the code: `Done` or the refusal number, beside the thread's state; and what a caller must know before it asks.
+-- Assumes nothing.
+use mathlib.Core.Bool.{Bool, _&&_}
+use Prim.Native.Nat.{ℕ, max, _+_}
+use lib.Dec.{ltb}
+use Rattle.views.specs.Views.{viewAt}
+use Rattle.machine.specs.Below.{Operand, StoreMode, Instr, Compute, Load, Store, Branch, Fence}
+use Rattle.machine.specs.State.{Message, Memory, Thread, append, raiseCoherence, withForward, withViews}
+use Rattle.machine.specs.Rules.{Executed, refused, next, test, valueOf, address, advance, storePre, storeViews, execute, addPromise}
+pub use Rattle.machine.specs.declared.RuleAnswer.{RuleAnswer}
+pub use Rattle.machine.specs.declared.RuleAnswer.the-variants.{Done, Refused}
+pub use Rattle.machine.specs.declared.Ruled.{Ruled}
+
+-- the answer of a rule that was asked of the thread s: a refused thread stays as it was
+abbrev pub ruled : Thread → Executed → Ruled
+ruled s (refused n) = record { answer = Refused n; thread = s }
+ruled s (next s') = record { answer = Done; thread = s' }
+
+-- the most that an instruction moves the position on by
+abbrev pub reach : Instr → ℕ
+reach (Compute k r a b) = 1
+reach (Load k r a b) = 1
+reach (Store k a d) = 1
+reach (Branch n a b) = n + 1
+reach (Fence k) = 1
+
+-- ---- stores
+-- pre-view and coherence view are both below t
+unfoldable pub belowTime : StoreMode → ℕ → ℕ → ℕ → ℕ → Thread → Bool
+belowTime k t l va vd s = ltb (storePre k va vd (s .views)) t && ltb (viewAt (s .coherence) l) t
+
+-- what a store changes, but for the promises
+abbrev pub stored : StoreMode → ℕ → ℕ → ℕ → ℕ → Thread → Thread
+stored k t l va vd s = advance 1 (withForward l t (max va vd) (withViews (storeViews k t va (s .views)) (raiseCoherence l t s)))
+
+-- a store at time t whose promise is made with it, so that 26 is no test and the promises stay
+unfoldable pub ownAt : StoreMode → ℕ → ℕ → ℕ → ℕ → Thread → Executed
+ownAt k t l va vd s = test (belowTime k t l va vd s) 28 (next (stored k t l va vd s))
+
+-- the message of a store of thread i: data d to address a
+abbrev pub storeMessage : ℕ → Operand → Operand → Thread → Message
+storeMessage i a d s = record { location = address (valueOf s a); value = valueOf s d; thread = i }
+
+-- a store of thread i that appends its own message and fulfils it at once
+unfoldable pub ownStore : StoreMode → Operand → Operand → Memory → ℕ → Thread → Executed
+ownStore k a d m i s =
+    let m' = append m (storeMessage i a d s) in
+    execute (Store k a d) m' (m' .count) (addPromise m' s)
