@@ -1,6 +1,7 @@
 // The machine by value: messages, memory, a thread's state with its views, four threads. Times and views are bytes.
 pub mod answers;
 pub mod loads;
+pub mod machines;
 pub mod merge;
 pub mod messages;
 pub mod operands;

@@ -12,7 +12,7 @@ use Rattle.machine.proofs.Formed.{MachineOk}
 use Rattle.sequences.specs.Sequences.{Among}
 use Rattle.sequences.specs.Lawful.{Lawful}
 use Rattle.step.specs.declared.Step.{Step}
-use Rattle.step.specs.Step.{Stepped, rejected, accepted, step, taken}
+use Rattle.step.specs.Step.{Outcome, rejected, accepted, step, taken}
 use Rattle.step.specs.Order.{everyStep}
 use Rattle.step.proofs.Backwards.{Did, executed, promised, did}
 use Rattle.step.proofs.Bound.{potential, lowers, well-formed}
@@ -20,7 +20,7 @@ use Rattle.search.specs.Search.{stepping}
 use Rattle.search.proofs.Steps.{less-asym, rising, execution-tried, promise-tried}
 
 -- a step is taken exactly if it is accepted
-pub taken-accepted : (o : Stepped) (x : Machine) → taken o ≡ some x → o ≡ accepted x
+pub taken-accepted : (o : Outcome) (x : Machine) → taken o ≡ some x → o ≡ accepted x
 taken-accepted (rejected n) x e = absurd (let z : _≡_ {A = ℕ} 0 1 = cc in omega arith)
 taken-accepted (accepted y) x e = cc
 

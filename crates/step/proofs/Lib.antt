@@ -3,3 +3,4 @@ pub mod Bound
 pub mod Room
 pub mod OwnPromise
 pub mod Kept
+pub mod Stepping

@@ -24,7 +24,7 @@ use Rattle.machine.proofs.Formed.{MachineOk, machine-iff}
 use Rattle.certify.specs.Certify.{certified}
 use Rattle.certify.proofs.Dead.{Dead, dead-run}
 use Rattle.step.specs.Below.{Program, Operand, LoadMode, Instr, Load, Memory, Forward, Thread, Machine}
-use Rattle.step.specs.Step.{Step, Stepped, rejected, accepted, check, settle, settleRule, executeInstr, executeStep, kindStep, ruleStep, step}
+use Rattle.step.specs.Step.{Step, Outcome, rejected, accepted, check, settle, settleRule, executeInstr, executeStep, kindStep, ruleStep, step}
 use Rattle.step.specs.Order.{execution}
 use Rattle.step.specs.Reached.{Reached, start, on}
 use Rattle.step.proofs.Backwards.{moved, promisedThread, Did, executed, promised, did}
@@ -80,11 +80,11 @@ at-least t u v n = go (eqb t u) refl
     go true e = absurd (n (sym (eqb→eq t u (subst T (sym e) tt))))
     go false e = omega arith
 
-pub check-no : (b : Bool) (n : ℕ) (o : Stepped) → (T b → ⊥) → check b n o ≡ rejected n
+pub check-no : (b : Bool) (n : ℕ) (o : Outcome) → (T b → ⊥) → check b n o ≡ rejected n
 check-no true n o h = absurd (h tt)
 check-no false n o h = refl
 
-pub check-yes : (b : Bool) (n : ℕ) (o : Stepped) → T b → check b n o ≡ o
+pub check-yes : (b : Bool) (n : ℕ) (o : Outcome) → T b → check b n o ≡ o
 check-yes true n o h = refl
 check-yes false n o h = absurd h
 

@@ -24,7 +24,7 @@ use Rattle.certify.specs.Runs.{Run, Unlimited}
 use Rattle.certify.proofs.Certified.{certified-iff}
 use Rattle.certify.proofs.Fit.{outstanding, fits, promises-fit, unlimited-is-certifying}
 use Rattle.step.specs.Below.{Code, Program, Instr, Memory, Thread, Machine}
-use Rattle.step.specs.Step.{Step, Stepped, rejected, check, settle, promiseStep, kindStep, ruleStep, step}
+use Rattle.step.specs.Step.{Step, Outcome, rejected, check, settle, promiseStep, kindStep, ruleStep, step}
 use Rattle.step.specs.Order.{promise}
 use Rattle.step.specs.Reached.{Reached, start, on}
 use Rattle.step.proofs.Backwards.{moved, promisedMemory, promisedThread, Did, executed, promised, did}
@@ -133,7 +133,7 @@ module _ (p : Program) {x : Machine} (r : Reached p x) (few : stores p ≤ 16) (
       (omega arith, certified-iff (codeOf p i) i (promisedMemory x i l v) (promisedThread x i l v) .1 (unlimited-is-certifying (omega arith) u))
 
 -- ---- refusal 24
-refused-later : (b : Bool) (n m : ℕ) (o : Stepped) → check b n o ≡ rejected m → (n ≡ m → ⊥) → T b × (o ≡ rejected m)
+refused-later : (b : Bool) (n m : ℕ) (o : Outcome) → check b n o ≡ rejected m → (n ≡ m → ⊥) → T b × (o ≡ rejected m)
 refused-later true n m o e d = (tt, e)
 refused-later false n m o e d = absurd (d (cc))
 
@@ -141,7 +141,7 @@ not-settled : (p : Program) (x : Machine) (i : ℕ) (m : Memory) (s : Thread) �
 unfolding settle
 not-settled p x i m s e = let q = refused-later (certified (codeOf p i) i m s) 29 24 _ e (λ d. omega arith) .1 in let z : _≡_ {A = ℕ} 0 1 = cc in omega arith
 
-full : (b : Bool) (o : Stepped) → check b 24 o ≡ rejected 24 → (o ≡ rejected 24 → ⊥) → T b → ⊥
+full : (b : Bool) (o : Outcome) → check b 24 o ≡ rejected 24 → (o ≡ rejected 24 → ⊥) → T b → ⊥
 full true o e n t = n e
 full false o e n t = t
 

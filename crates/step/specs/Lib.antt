@@ -4,3 +4,4 @@ pub mod Order
 pub mod Outcome
 pub mod Trace
 pub mod Reached
+pub mod Answers
