@@ -20,7 +20,7 @@ use Rattle.machine.specs.declared.RuleAnswer.{RuleAnswer}
 use Rattle.machine.specs.declared.RuleAnswer.the-variants.{Done, Refused}
 use Rattle.machine.specs.declared.Ruled.{Ruled}
 use Rattle.machine.proofs.Sets.{without-small, grown-small}
-use Rattle.machine.proofs.Cases.{reach-within}
+use Rattle.machine.proofs.Cases.{reach-within, ruled-done, ruled-refused}
 use Rattle.machine.proofs.Effects.{Effect, computed, loaded, stored, branched, fenced, effect, effect-time, readable-time, loadLocation}
 use Rattle.certify.specs.Below.{Code, Operand, ComputeMode, LoadMode, StoreMode, FenceMode, Instr, Compute, Load, Store, Branch, Fence, Message, Memory, Thread}
 use Rattle.certify.specs.Certify.{anyFrom, messageOf, onward, ownMessage, oneMore, certify}
@@ -180,13 +180,8 @@ module _ (n : ℕ) (c : Code) (i : ℕ) (m : Memory) (s : Thread) where
       cert-own b e y r q = sym (tried ∙ ap (λ (z : Bool). z || ownMessage (certify (n - 1) c i) x m s (messageOf i s x)) (sym e ∙ y) ∙ sym q)
 
 -- ---- one try
-pub ruled-done : (s : Thread) (o : Executed) (r : Ruled) → r ≡ ruled s o → r .answer ≡ Done → o ≡ next (r .thread)
-ruled-done s (refused n) r e d = absurd (let z : _≡_ {A = ℕ} 0 1 = cc in omega arith)
-ruled-done s (next s') r e d = ap next (sym (ap (λ (y : Ruled). y .thread) e))
-
-pub ruled-refused : (g : Thread → Bool) (s : Thread) (o : Executed) (r : Ruled) → r ≡ ruled s o → (n : ℕ) → r .answer ≡ Refused n → onward g o ≡ false
-ruled-refused g s (refused k) r e n d = refl
-ruled-refused g s (next s') r e n d = absurd (let z : _≡_ {A = ℕ} 0 1 = cc in omega arith)
+stays : (g : Thread → Bool) (s : Thread) (o : Executed) (r : Ruled) → r ≡ ruled s o → (n : ℕ) → r .answer ≡ Refused n → onward g o ≡ false
+stays g s o r e n d = ap (onward g) (ruled-refused s o r n e d)
 
 -- ---- what holds of the thread goes on holding
 pub ready-after : {c : Code} {m : Memory} {s : Thread} {t : ℕ} {x : Instr} {s' : Thread} → Ready c m s → Effect m t s x s' → Ready c m s'
@@ -224,7 +219,7 @@ module _ (f : Memory → Thread → Bool) (i : ℕ) (m : Memory) (s : Thread) (k
   module _ (h : m .count < 16) (r : Ruled) (e : r ≡ ruled s (ownStore k a d m i s)) where
     pub own-stuck : (n : ℕ) → r .answer ≡ Refused n → false ≡ ownMessage f x m s (messageOf i s x)
     unfolding ownMessage ownStore
-    own-stuck n z = rw (is, lt-ltb (m .count) 16 h) (sym (ruled-refused (f (append m (storeMessage i a d s))) s (ownStore k a d m i s) r e n z))
+    own-stuck n z = rw (is, lt-ltb (m .count) 16 h) (sym (stays (f (append m (storeMessage i a d s))) s (ownStore k a d m i s) r e n z))
 
     pub own-goes : (m' : Memory) → m' ≡ append m (storeMessage i a d s) → r .answer ≡ Done → (b : Bool) → b ≡ f m' (r .thread) → b ≡ ownMessage f x m s (messageOf i s x)
     unfolding ownMessage ownStore
@@ -254,4 +249,4 @@ module _ (g : Thread → Bool) (x : Instr) (m : Memory) (s : Thread) (t last : �
       ∙ ap (λ (o : Bool). o || anyFrom tries (t + 1) (last + 1 - (t + 1))) (ap (onward g) (ruled-done s (execute x m t s) r e z) ∙ sym y ∙ w)
 
   pub times-refused : (n : ℕ) → r .answer ≡ Refused n → anyFrom tries t (last + 1 - t) ≡ anyFrom tries (t + 1) (last + 1 - (t + 1))
-  times-refused n z = any-more tries t last h ∙ ap (λ (o : Bool). o || anyFrom tries (t + 1) (last + 1 - (t + 1))) (ruled-refused g s (execute x m t s) r e n z)
+  times-refused n z = any-more tries t last h ∙ ap (λ (o : Bool). o || anyFrom tries (t + 1) (last + 1 - (t + 1))) (stays g s (execute x m t s) r e n z)

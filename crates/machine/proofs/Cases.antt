@@ -1,11 +1,11 @@
 -- The rules, case by case: each answer from the tests that lead to it.
 -- Assumes nothing.
 use mathlib.Core.Path.{_≡_, refl, sym, ap, _∙_, subst}
-use mathlib.Core.Bool.{Bool, true, false, not, _&&_}
+use mathlib.Core.Bool.{Bool, true, false, not}
 use mathlib.Core.Option.{some}
 use Prim.Native.Nat.{ℕ, max, _+_, _^_, _≤_, _<_}
 use native.Mathlib.Omega.{arith}
-use lib.Dec.{T, eqb, leb, eqb-refl}
+use lib.Dec.{T}
 use lib.ListN.{length}
 use borrow.Author.Tests.{le-leb, eq-eqb, not-true, not-false}
 use Rattle.views.specs.Views.{viewAt}
@@ -14,9 +14,9 @@ use Rattle.program.proofs.Tests.{and-left, is-true}
 use Rattle.program.proofs.Counts.{there}
 use Rattle.program.proofs.Formed.{CodeOk}
 use Rattle.machine.specs.Below.{Code, Operand, Constant, OfRegister, LoadMode, StoreMode, Instr, Compute, Load, Store, Branch, Fence}
-use Rattle.machine.specs.State.{Message, Memory, Thread, messageAt, append, has, with, without, withPromises}
-use Rattle.machine.specs.Rules.{Executed, refused, next, valueOf, viewOf, address, loadPre, readable, noneNewer, readView, loadDone, loadAt, storePre, promised, storeDone, storeAt, execute, addPromise}
-use Rattle.machine.specs.Answers.{reach, belowTime, stored, ownAt, storeMessage, ownStore}
+use Rattle.machine.specs.State.{Message, Memory, Thread, append, has, with, withPromises}
+use Rattle.machine.specs.Rules.{Executed, refused, next, valueOf, viewOf, address, loadPre, readable, noneNewer, readView, loadDone, loadAt, promised, storeDone, storeAt, execute, addPromise}
+use Rattle.machine.specs.Answers.{Ruled, Done, Refused, ruled, reach, belowTime, stored, ownAt, storeMessage, ownStore}
 use Rattle.machine.proofs.Sets.{has-with, with-without}
 use Rattle.machine.proofs.Memories.{message-new}
 
@@ -27,6 +27,15 @@ reach-within c o n (Load k r a b) e = let l = there c n (Load k r a b) e .0 in o
 reach-within c o n (Store k a d) e = let l = there c n (Store k a d) e .0 in omega arith
 reach-within c o n (Branch j a b) e = let l = o .lands n j a b e in omega arith
 reach-within c o n (Fence k) e = let l = there c n (Fence k) e .0 in omega arith
+
+-- ---- an answer read backwards
+pub ruled-done : (s : Thread) (o : Executed) (r : Ruled) → r ≡ ruled s o → r .answer ≡ Done → o ≡ next (r .thread)
+ruled-done s (refused n) r e h = let q : r .answer ≡ Refused n = ap (λ (x : Ruled). x .answer) e in absurd (let z : _≡_ {A = ℕ} 0 1 = cc in omega arith)
+ruled-done s (next s') r e h = ap (λ (x : Ruled). next (x .thread)) (sym e)
+
+pub ruled-refused : (s : Thread) (o : Executed) (r : Ruled) (n : ℕ) → r ≡ ruled s o → r .answer ≡ Refused n → o ≡ refused n
+ruled-refused s (refused k) r n e h = let q : r .answer ≡ Refused k = ap (λ (x : Ruled). x .answer) e in let z : k ≡ n = cc in ap refused z
+ruled-refused s (next s') r n e h = let q : r .answer ≡ Done = ap (λ (x : Ruled). x .answer) e in absurd (let z : _≡_ {A = ℕ} 0 1 = cc in omega arith)
 
 -- ---- what a negated test says of the value that was tested
 pub was-false : {a b : Bool} → a ≡ b → not a ≡ true → b ≡ false

@@ -106,7 +106,7 @@ no-message-test : T (unusedMessage noMessage)
 unfolding unusedMessage allOf
 no-message-test = tt
 
-message-place : (m : Memory) (k : ℕ) → messageAt m (suc k) ≡ getD (m .messages) k noMessage
+pub message-place : (m : Memory) (k : ℕ) → messageAt m (suc k) ≡ getD (m .messages) k noMessage
 message-place m k = let e : suc k - 1 ≡ k = omega arith in ap (λ (j : ℕ). getD (m .messages) j noMessage) e
 
 module _ (n : ℕ) (m : Memory) where

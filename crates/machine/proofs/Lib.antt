@@ -7,3 +7,4 @@ pub mod Independent
 pub mod Words
 pub mod Newest
 pub mod Cases
+pub mod Loops

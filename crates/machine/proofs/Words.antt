@@ -1,17 +1,17 @@
 -- The set of promises in a word of 16 bits: what shifts, ones and trailing zeros say of it.
 -- Assumes nothing.
 use mathlib.Core.Path.{_≡_, refl, sym, ap, _∙_, subst}
-use mathlib.Core.Bool.{Bool, true, false, _&&_}
+use mathlib.Core.Bool.{false}
 use Prim.Native.Nat.{ℕ, zero, suc, _+_, _-_, _*_, _/_, _%_, _^_, _≤_, _<_}
 use native.Mathlib.Nat.{mod-eq-of-lt, div-eq-of-lt, one-mul, lt-of-not-le, div-div-eq-div-mul, div-one, pow-succ'}
 use native.Mathlib.Decide.{decLe}
 use native.Mathlib.Omega.{arith}
 use lib.Arith.{bin-ind}
-use lib.Count.{ones, ones-step, trailingZeros, trailing-le}
+use lib.Count.{ones, ones-step, trailingZeros}
 use lib.Dec.{T, eqb, ltb, eqb→eq}
 use lib.Pow.{pow-lt}
-use borrow.Author.Tests.{ne-eqb, lt-ltb, le-ltb}
-use Rattle.program.proofs.Tests.{and-right, is-true, is-false}
+use borrow.Author.Tests.{ne-eqb, lt-ltb}
+use Rattle.program.proofs.Tests.{and-right, is-false}
 use Rattle.machine.specs.State.{has}
 use Rattle.machine.specs.Promises.{First}
 use Rattle.machine.proofs.Sets.{has-positive, has-time, ones-none}

@@ -10,6 +10,7 @@ pub mod promises;
 pub mod rules;
 pub mod stores;
 pub mod threads;
+pub mod well_formed;
 
 // A message of memory: a store of `thread`.
 pub struct Message {

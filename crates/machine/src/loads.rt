@@ -55,7 +55,7 @@ pub fn none_newer(m: Memory, l: u8, t: u8, v: u8) -> bool
 }
 
 // Time 0 holds value 0.
-pub fn read_value(m: Memory, t: u8) -> u8
+fn read_value(m: Memory, t: u8) -> u8
     requires { ⌜ t ≤ 16 ⌝ }
     ensures { λ r. ⌜ r ≡ readValue m t ⌝ }
 {
@@ -71,7 +71,7 @@ pub fn read_view(s: Thread, l: u8, t: u8) -> u8
     if t == w.time { w.view } else { t }
 }
 
-pub fn if_acquire(k: LoadMode, v: u8) -> u8
+fn if_acquire(k: LoadMode, v: u8) -> u8
     ensures { λ r. ⌜ r ≡ ifAcquire k v ⌝ }
 {
     match k {
@@ -81,7 +81,7 @@ pub fn if_acquire(k: LoadMode, v: u8) -> u8
     }
 }
 
-pub fn load_views(k: LoadMode, va: u8, post: u8, w: Views) -> Views
+fn load_views(k: LoadMode, va: u8, post: u8, w: Views) -> Views
     ensures { λ r. ⌜ r ≡ loadViews k va post w ⌝ }
 {
     let v = if_acquire(k, post);

@@ -21,7 +21,7 @@ use program::Operand;
 use program::StoreMode;
 
 // The largest of address view, data view, wNew and CAP, and for release also rOld and wOld.
-pub fn store_pre(k: StoreMode, va: u8, vd: u8, w: Views) -> u8
+fn store_pre(k: StoreMode, va: u8, vd: u8, w: Views) -> u8
     ensures { λ r. ⌜ r ≡ storePre k va vd w ⌝ }
 {
     let v = larger(larger(va, vd), larger(w.wNew, w.cap));
@@ -46,7 +46,7 @@ pub fn promised(m: Memory, t: u8, l: u8, v: u8, s: Thread) -> bool
     if w.location == l { w.value == v } else { false }
 }
 
-pub fn if_release(k: StoreMode, t: u8) -> u8
+fn if_release(k: StoreMode, t: u8) -> u8
     ensures { λ r. ⌜ r ≡ ifRelease k t ⌝ }
 {
     match k {
@@ -55,7 +55,7 @@ pub fn if_release(k: StoreMode, t: u8) -> u8
     }
 }
 
-pub fn store_views(k: StoreMode, t: u8, va: u8, w: Views) -> Views
+fn store_views(k: StoreMode, t: u8, va: u8, w: Views) -> Views
     ensures { λ r. ⌜ r ≡ storeViews k t va w ⌝ }
 {
     w.raise_w_old(t).raise_rel(if_release(k, t)).raise_cap(va)

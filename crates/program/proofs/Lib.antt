@@ -10,3 +10,8 @@ pub mod ReadThreads
 pub mod ReadFormed
 pub mod Reader
 pub mod Arrays
+pub mod Lists
+pub mod Reading
+pub mod Cursors
+pub mod Coincide
+pub mod Loops

@@ -4,3 +4,4 @@ pub mod Counts
 pub mod WellFormed
 pub mod File
 pub mod Encode
+pub mod Answers

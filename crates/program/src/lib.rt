@@ -1,8 +1,14 @@
 // A program by value, as its file has it, and the instructions that its bytes stand for.
+mod file;
+mod range;
+pub mod well_formed;
+
+pub use file::read;
 ghost use mathlib.Core.Path.{_≡_};
 ghost use mathlib.Core.Option.{some};
 ghost use Prim.Native.Nat.{_<_};
 ghost use Rattle.program.specs.Program.{operand, computeMode, loadMode, storeMode, fenceMode, decode, instructionAt, instrAt, codeOf};
+ghost use Rattle.program.specs.Counts.{oneStore};
 
 // An instruction's seven bytes. The operand (k, n) is the constant n for k = 0, the register n for k = 1.
 pub struct Instruction {
@@ -76,6 +82,17 @@ pub enum Instr {
     Fence(FenceMode),
 }
 
+// The answer to a file: a program, or the number and the place of the refusal.
+pub enum ReadAnswer {
+    Good,
+    Refused(u8, usize),
+}
+
+pub struct FileRead {
+    pub answer: ReadAnswer,
+    pub program: Program,
+}
+
 fn operand_of(k: u8, n: u8) -> Operand
     ensures { λ r. ⌜ r ≡ operand k n ⌝ }
 {
@@ -143,6 +160,13 @@ impl Instruction {
             3 => Instr::Branch(self.m, a, b),
             _ => Instr::Fence(fence_mode(self.m)),
         }
+    }
+
+    // 1 for a store, 0 for anything else.
+    pub fn one_store(self) -> u8
+        ensures { λ r. ⌜ r ≡ oneStore self ⌝ }
+    {
+        if self.op == 2 { 1 } else { 0 }
     }
 }
 

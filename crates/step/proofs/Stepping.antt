@@ -16,12 +16,12 @@ use Rattle.machine.specs.Answers.{ruled, reach}
 use Rattle.machine.specs.declared.RuleAnswer.the-variants.{Done, Refused}
 use Rattle.machine.specs.declared.Ruled.{Ruled}
 use Rattle.machine.proofs.Sets.{with-small}
-use Rattle.machine.proofs.Cases.{reach-within}
+use Rattle.machine.proofs.Cases.{reach-within, ruled-done}
 use Rattle.machine.proofs.Effects.{effect}
 use Rattle.machine.proofs.Formed.{ThreadOk, MachineOk, machine-iff}
 use Rattle.certify.specs.Certify.{certify, certified}
 use Rattle.certify.specs.Answers.{Ready}
-use Rattle.certify.proofs.Trying.{ruled-done, ready-after}
+use Rattle.certify.proofs.Trying.{ready-after}
 use Rattle.step.specs.Below.{Code, Program, Instr, Message, Memory, Thread, Machine}
 use Rattle.step.specs.Step.{Step, Outcome, rejected, accepted, check, settle, settleRule, executeInstr, executeStep, promiseStep, kindStep, ruleStep, step}
 use Rattle.step.specs.Answers.{Taken, Stepped, stepped, Formed, Settling}

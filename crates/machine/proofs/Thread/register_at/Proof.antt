@@ -1,7 +1,6 @@
 -- `machine::Thread::register_at` meets its contract: past the registers stands the fresh one.
 -- Assumes nothing.
 use mathlib.Core.Path.{_≡_, sym}
-use Prim.Native.Nat.{_≤_}
 use native.Mathlib.Omega.{arith}
 use lib.ListN.{length, List·getD-eq-default}
 use Rattle.program.proofs.Arrays.{length-mapped}

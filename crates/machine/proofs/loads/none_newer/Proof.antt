@@ -35,4 +35,19 @@ returns-2 c = let q = c .before .loop .inv .1 in
     sym (none-from (c .before .before .before .before .args .m) _ _ _ _ _ e q ∙ none-left _ _ _ _ _ (c .loop-test .left))
 
 pub none-newer-spec : {M : Type 1} → statement M
-none-newer-spec = tie.close (tie.spec Inv-loop μ-loop (λ c κs. tt) (λ c. (omega arith, refl)) (λ c. omega arith) (λ c. omega arith) (λ c. omega arith) (λ c. omega arith) returns (λ c. omega arith) (λ c. omega arith) loop-again returns-2)
+none-newer-spec =
+    tie.close
+    (tie.spec
+    Inv-loop
+    μ-loop
+    (λ c κs. tt)
+    (λ c. (omega arith, refl))
+    (λ c. omega arith)
+    (λ c. omega arith)
+    (λ c. omega arith)
+    (λ c. omega arith)
+    returns
+    (λ c. omega arith)
+    (λ c. omega arith)
+    loop-again
+    returns-2)

@@ -6,4 +6,9 @@ use Rattle.machine.proofs.loads.read_view.Statement.{statement}
 use Rattle.machine.proofs.loads.read_view.Tie as tie
 
 pub read-view-spec : {M : Type 1} → statement M
-read-view-spec = tie.close (tie.spec (λ c κs. search needs) (λ c. rw (← c .before .before .forward-at .ensures, eq-eqb _ _ (c .if1 .taken))) (λ c. rw (← c .before .before .forward-at .ensures, ne-eqb _ _ (c .if1 .left))))
+read-view-spec =
+    tie.close
+    (tie.spec
+    (λ c κs. search needs)
+    (λ c. rw (← c .before .before .forward-at .ensures, eq-eqb _ _ (c .if1 .taken)))
+    (λ c. rw (← c .before .before .forward-at .ensures, ne-eqb _ _ (c .if1 .left))))

@@ -16,7 +16,11 @@ returns-2 c = simp (ne-eqb _ _ (c .before .before .if1 .left), lt-leb _ _ (c .if
 
 returns-3 : tie.Need-returns-3
 unfolding readable
-returns-3 c = simp (ne-eqb _ _ (c .before .before .before .before .if1 .left), le-leb _ _ (c .before .before .if2 .left), c .before .message-at .ensures)
+returns-3 c = simp (
+  ne-eqb _ _ (c .before .before .before .before .if1 .left),
+  le-leb _ _ (c .before .before .if2 .left),
+  c .before .message-at .ensures,
+)
 
 pub readable-spec : {M : Type 1} → statement M
 readable-spec = tie.close (tie.spec returns returns-2 (λ c κs. search needs) returns-3)

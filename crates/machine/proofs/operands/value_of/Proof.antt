@@ -5,4 +5,11 @@ use Rattle.machine.proofs.operands.value_of.Statement.{statement}
 use Rattle.machine.proofs.operands.value_of.Tie as tie
 
 pub value-of-spec : {M : Type 1} → statement M
-value-of-spec = tie.close (tie.spec (λ c. search needs) (λ c. search needs) (λ c κs. tt) (λ c. search needs) (λ c. rw (c .register-at .ensures, c .before .before .a2 .given .1)))
+value-of-spec =
+    tie.close
+    (tie.spec
+    (λ c. search needs)
+    (λ c. search needs)
+    (λ c κs. tt)
+    (λ c. search needs)
+    (λ c. rw (c .register-at .ensures, c .before .before .a2 .given .1)))

@@ -1,7 +1,5 @@
 -- `machine::plain::combine` meets its contract: one case for each mode.
 -- Assumes nothing.
-use mathlib.Core.Path.{_≡_}
-use Prim.Native.Nat.{_+_, _-_, _%_}
 use native.Mathlib.Omega.{arith}
 use borrow.Author.Tests.{eq-eqb, ne-eqb}
 use Rattle.machine.specs.Rules.{combine}
@@ -30,4 +28,17 @@ unfolding combine
 returns-5 c = rw (c .before .enum-told4 .given .1, ne-eqb _ _ (c .if1 .left))
 
 pub combine-spec : {M : Type 1} → statement M
-combine-spec = tie.close (tie.spec (λ c. search needs) (λ c κs. tt) (λ c. search needs) (λ c κs. tt) (λ c. search needs) (λ c. search needs) returns returns-2 returns-3 returns-4 returns-5)
+combine-spec =
+    tie.close
+    (tie.spec
+    (λ c. search needs)
+    (λ c κs. tt)
+    (λ c. search needs)
+    (λ c κs. tt)
+    (λ c. search needs)
+    (λ c. search needs)
+    returns
+    returns-2
+    returns-3
+    returns-4
+    returns-5)

@@ -7,4 +7,9 @@ use Rattle.machine.proofs.promises.first.Statement.{statement}
 use Rattle.machine.proofs.promises.first.Tie as tie
 
 pub first-spec : {M : Type 1} → statement M
-first-spec = tie.close (tie.spec (λ c. omega (arith, trailing-le 16 (c .args .p))) (λ c. omega (arith, trailing-le 16 (c .args .p))) (λ c. first-of (c .args .p) (c .fits .p .fits) (c .pre)))
+first-spec =
+    tie.close
+    (tie.spec
+    (λ c. omega (arith, trailing-le 16 (c .args .p)))
+    (λ c. omega (arith, trailing-le 16 (c .args .p)))
+    (λ c. first-of (c .args .p) (c .fits .p .fits) (c .pre)))

@@ -20,4 +20,11 @@ returns c = let q = member _ _ (c .fits .p .fits) (c .pre) in
     rw (shl-one _ k)
 
 pub without-spec : {M : Type 1} → statement M
-without-spec = tie.close (tie.spec (λ c. omega (arith, member _ _ (c .fits .p .fits) (c .pre))) (λ c. search needs) (λ c. omega (arith, member _ _ (c .fits .p .fits) (c .pre))) sub-result-2 returns)
+without-spec =
+    tie.close
+    (tie.spec
+    (λ c. omega (arith, member _ _ (c .fits .p .fits) (c .pre)))
+    (λ c. search needs)
+    (λ c. omega (arith, member _ _ (c .fits .p .fits) (c .pre)))
+    sub-result-2
+    returns)

@@ -19,7 +19,22 @@ store-done-requires c κs = let h = promised-in _ _ _ _ _ (was-true (c .before .
 
 returns-3 : tie.Need-returns-3
 returns-3 c = let p = was-true (c .before .before .before .before .before .promised .ensures) (c .before .before .before .before .if1 .left) in
-    rw (c .done .ensures, store-next _ _ _ _ _ _ _ _ p (was-true (c .before .before .before .below-time .ensures) (c .before .before .if2 .left)), c .before .store-done .ensures)
+    rw (
+      c .done .ensures,
+      store-next _ _ _ _ _ _ _ _ p (was-true (c .before .before .before .below-time .ensures) (c .before .before .if2 .left)),
+      c .before .store-done .ensures,
+    )
 
 pub store-at-spec : {M : Type 1} → statement M
-store-at-spec = tie.close (tie.spec (λ c κs. search needs) (λ c κs. tt) returns (λ c κs. search needs) (λ c κs. tt) returns-2 store-done-requires (λ c κs. tt) returns-3)
+store-at-spec =
+    tie.close
+    (tie.spec
+    (λ c κs. search needs)
+    (λ c κs. tt)
+    returns
+    (λ c κs. search needs)
+    (λ c κs. tt)
+    returns-2
+    store-done-requires
+    (λ c κs. tt)
+    returns-3)

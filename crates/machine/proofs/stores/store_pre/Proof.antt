@@ -5,10 +5,33 @@ use Rattle.machine.proofs.stores.store_pre.Statement.{statement}
 use Rattle.machine.proofs.stores.store_pre.Tie as tie
 
 returns : tie.Need-returns
-returns c = rw (c .enum-told .given .1, c .before .before .larger3 .ensures, c .before .before .before .larger2 .ensures, c .before .before .before .before .larger .ensures)
+returns c = rw (
+  c .enum-told .given .1,
+  c .before .before .larger3 .ensures,
+  c .before .before .before .larger2 .ensures,
+  c .before .before .before .before .larger .ensures,
+)
 
 returns-2 : tie.Need-returns-2
-returns-2 c = rw (c .larger5 .ensures, c .before .larger4 .ensures, c .before .before .enum-told2 .given .1, c .before .before .before .before .larger3 .ensures, c .before .before .before .before .before .larger2 .ensures, c .before .before .before .before .before .before .larger .ensures)
+returns-2 c = rw (
+  c .larger5 .ensures,
+  c .before .larger4 .ensures,
+  c .before .before .enum-told2 .given .1,
+  c .before .before .before .before .larger3 .ensures,
+  c .before .before .before .before .before .larger2 .ensures,
+  c .before .before .before .before .before .before .larger .ensures,
+)
 
 pub store-pre-spec : {M : Type 1} → statement M
-store-pre-spec = tie.close (tie.spec (λ c κs. tt) (λ c κs. tt) (λ c κs. tt) (λ c. search needs) (λ c. search needs) (λ c κs. tt) (λ c κs. tt) returns returns-2)
+store-pre-spec =
+    tie.close
+    (tie.spec
+    (λ c κs. tt)
+    (λ c κs. tt)
+    (λ c κs. tt)
+    (λ c. search needs)
+    (λ c. search needs)
+    (λ c κs. tt)
+    (λ c κs. tt)
+    returns
+    returns-2)

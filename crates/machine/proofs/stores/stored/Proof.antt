@@ -6,7 +6,23 @@ use Rattle.machine.proofs.stores.stored.Statement.{statement}
 use Rattle.machine.proofs.stores.stored.Tie as tie
 
 returns : tie.Need-returns
-returns c = rw (c .advance .ensures, c .before .with-forward .ensures, c .before .before .larger .ensures, c .before .before .before .with-views .ensures, c .before .before .before .before .raise-coherence .ensures, c .before .before .before .before .before .store-views .ensures)
+returns c = rw (
+  c .advance .ensures,
+  c .before .with-forward .ensures,
+  c .before .before .larger .ensures,
+  c .before .before .before .with-views .ensures,
+  c .before .before .before .before .raise-coherence .ensures,
+  c .before .before .before .before .before .store-views .ensures,
+)
 
 pub stored-spec : {M : Type 1} → statement M
-stored-spec = tie.close (tie.spec (λ c κs. tt) (λ c κs. search needs) (λ c κs. tt) (λ c κs. tt) (λ c κs. search needs) (λ c κs. rw (c .with-forward .ensures, c .before .before .with-views .ensures, c .before .before .before .raise-coherence .ensures) (omega arith)) returns)
+stored-spec =
+    tie.close
+    (tie.spec
+    (λ c κs. tt)
+    (λ c κs. search needs)
+    (λ c κs. tt)
+    (λ c κs. tt)
+    (λ c κs. search needs)
+    (λ c κs. rw (c .with-forward .ensures, c .before .before .with-views .ensures, c .before .before .before .raise-coherence .ensures) (omega arith))
+    returns)

@@ -1,0 +1,14 @@
+-- `machine::well_formed::views_test` meets its contract: its six views.
+-- Assumes nothing.
+use mathlib.Core.Bool.{and-assoc, and-true}
+use Rattle.program.specs.Tests.{allOf}
+use Rattle.machine.specs.WellFormed.{viewsTest}
+use Rattle.machine.proofs.well_formed.views_test.Statement.{statement}
+use Rattle.machine.proofs.well_formed.views_test.Tie as tie
+
+returns : tie.Need-returns
+unfolding viewsTest allOf
+returns c = simp (and-assoc, and-true)
+
+pub views-test-spec : {M : Type 1} → statement M
+views-test-spec = tie.close (tie.spec returns)

@@ -1,0 +1,14 @@
+-- `program::well_formed::unused_instruction` meets its contract: its seven bytes.
+-- Assumes nothing.
+use mathlib.Core.Bool.{and-assoc, and-true}
+use Rattle.program.specs.Tests.{allOf}
+use Rattle.program.specs.WellFormed.{unusedInstruction}
+use Rattle.program.proofs.well_formed.unused_instruction.Statement.{statement}
+use Rattle.program.proofs.well_formed.unused_instruction.Tie as tie
+
+returns : tie.Need-returns
+unfolding unusedInstruction allOf
+returns c = simp (and-assoc, and-true)
+
+pub unused-instruction-spec : {M : Type 1} → statement M
+unused-instruction-spec = tie.close (tie.spec returns)
