@@ -16,7 +16,7 @@ use Rattle.machine.proofs.Effects.{Effect, computed, loaded, stored, branched, 
 use Rattle.certify.specs.Below.{Code, Instr, Message, Memory, Thread}
 use Rattle.certify.specs.Certify.{certify}
 use Rattle.certify.specs.Runs.{Run, done, by, own}
-use Rattle.certify.proofs.Certified.{run-of}
+use Rattle.certify.proofs.Iff.{run-of}
 use Rattle.certify.proofs.Fit.{Owned, owned, own-effect}
 
 -- the promise at time t is outstanding, and the coherence view of its location is at least t

@@ -15,7 +15,7 @@ use Rattle.machine.proofs.Effects.{storeLocation, Effect, computed, loaded, sto
 use Rattle.certify.specs.Below.{Code, Operand, StoreMode, Instr, Store, Message, Memory, Thread}
 use Rattle.certify.specs.Certify.{messageOf, certified}
 use Rattle.certify.specs.Runs.{Run, done, by, own, Certifying, Unlimited}
-use Rattle.certify.proofs.Certified.{certified-iff}
+use Rattle.certify.proofs.Iff.{certified-iff}
 
 -- how many promises are outstanding
 abbrev pub outstanding : Thread → ℕ

@@ -25,7 +25,7 @@ use Rattle.machine.proofs.Effects.{loadLocation, loadPostView, Effect, computed
 use Rattle.certify.specs.Below.{Code, Operand, Constant, OfRegister, LoadMode, Instr, Message, Memory, Register, Forward, Thread}
 use Rattle.certify.specs.Certify.{certified}
 use Rattle.certify.specs.Runs.{done, by, own, Certifying}
-use Rattle.certify.proofs.Certified.{certified-iff}
+use Rattle.certify.proofs.Iff.{certified-iff}
 use Rattle.certify.proofs.Fit.{Owned, owned, own-effect}
 use Rattle.certify.proofs.Dead.{Dead, dead-ends}
 use Rattle.certify.proofs.Candidates.{Write, isIn, insert, writesUpTo, values, valueIn, readEach, relaxed, storesReached, candidates, in-here, in-there, read-zero, read-in, writes-seen}

@@ -1,6 +1,7 @@
-pub mod Certified
+pub mod Iff
 pub mod Fit
 pub mod Dead
 pub mod Candidates
 pub mod Law
 pub mod Trying
+pub mod Asked

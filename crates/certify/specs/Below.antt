@@ -1,6 +1,7 @@
 -- The types of the crates below, named once for this crate.
 -- Assumes nothing.
 pub use Rattle.program.specs.declared.Code.{Code}
+pub use Rattle.program.specs.declared.Program.{Program}
 pub use Rattle.program.specs.declared.Operand.{Operand}
 pub use Rattle.program.specs.declared.Operand.the-variants.{Constant, OfRegister}
 pub use Rattle.program.specs.declared.ComputeMode.{ComputeMode}
@@ -15,3 +16,4 @@ pub use Rattle.machine.specs.declared.Register.{Register}
 pub use Rattle.machine.specs.declared.Forward.{Forward}
 pub use Rattle.machine.specs.declared.Views.{Views}
 pub use Rattle.machine.specs.declared.Thread.{Thread}
+pub use Rattle.machine.specs.declared.Machine.{Machine}

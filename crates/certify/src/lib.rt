@@ -1,4 +1,8 @@
 // Certification of one thread: alone on the memory, by executing instructions, it can reach an empty promise set.
+mod checked;
+
+pub use checked::certify;
+
 ghost use mathlib.Core.Path.{_≡_};
 ghost use mathlib.Core.Option.{some};
 ghost use Prim.Native.Nat.{_+_, _-_, _≤_, _<_};
@@ -20,6 +24,13 @@ use machine::stores::own_store;
 use program::Code;
 use program::Instr;
 use program::Operand;
+
+// Whether a thread is certified, or the number of the refusal.
+pub enum Certified {
+    Yes,
+    No,
+    Refused(u8),
+}
 
 // The times at which an instruction is worth a try.
 pub struct Window {

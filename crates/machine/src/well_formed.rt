@@ -8,6 +8,7 @@ ghost use lib.ListN.{getD};
 ghost use Rattle.views.specs.Views.{viewAt};
 ghost use Rattle.program.specs.Tests.{below};
 ghost use Rattle.program.specs.Program.{codeOf};
+ghost use Rattle.program.specs.WellFormed.{programTest};
 ghost use Rattle.machine.specs.State.{freshRegister, freshForward, threadOf, has};
 ghost use Rattle.machine.specs.WellFormed.{messageTest, unusedMessage, memoryTest, viewsTest, ownTest, threadTest, unusedThread, machineTest};
 use crate::Machine;
@@ -17,6 +18,7 @@ use crate::Thread;
 use crate::Views;
 use program::Code;
 use program::Program;
+use program::well_formed::program_formed;
 
 // ---- memory
 fn message_test(threads: u8, w: Message) -> bool
@@ -197,4 +199,11 @@ pub fn machine_formed(p: Program, x: Machine) -> bool
 {
     let m = x.memory;
     memory_test(p.threads, m) && threads_test(p, x)
+}
+
+// Program and machine, as refusal 20 asks.
+pub fn both_formed(p: Program, x: Machine) -> bool
+    ensures { λ r. ⌜ r ≡ (programTest p && machineTest p x) ⌝ }
+{
+    program_formed(p) && machine_formed(p, x)
 }

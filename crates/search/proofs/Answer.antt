@@ -16,8 +16,7 @@ use Rattle.sequences.specs.Demand.{Demand}
 use Rattle.sequences.proofs.Listed.{first-step}
 use Rattle.sequences.proofs.Listed as lists
 use Rattle.sequences.proofs.Meets as answers
-use Rattle.step.specs.declared.Step.{Step}
-use Rattle.step.specs.Step.{step}
+use Rattle.step.specs.Step.{Step, step}
 use Rattle.step.specs.Reached.{Reached, on}
 use Rattle.step.proofs.Bound.{potential, potential-fresh}
 use Rattle.search.specs.Search.{stepping, sequencesOf, answerTo}

@@ -22,8 +22,7 @@ use Rattle.sequences.specs.Sequences.{Among, Ascending, branches}
 use Rattle.sequences.proofs.Ordered.{among-left, among-right, among-cases, among-map, among-unmap, ascending-append}
 use Rattle.sequences.proofs.Scan.{told}
 use Rattle.sequences.proofs.Fewer.{hunt, hunt-answer, rising-same}
-use Rattle.step.specs.declared.Step.{Step}
-use Rattle.step.specs.Step.{accepted, step}
+use Rattle.step.specs.Step.{Step, accepted, step}
 use Rattle.step.specs.Order.{Less, range, forEach, execution, promise, everyStep}
 use Rattle.step.proofs.Backwards.{Did, executed, promised, did}
 use Rattle.step.proofs.Bound.{well-formed}

@@ -11,7 +11,7 @@ use lib.Dec.{ltb, eqb}
 use borrow.Author.Tests.{ltb-true, ltb-false, eqb-true, eqb-false}
 use Rattle.sequences.specs.Sequences.{Among, Ascending}
 use Rattle.sequences.proofs.Ordered.{among-unmap}
-use Rattle.step.specs.declared.Step.{Step}
+use Rattle.step.specs.Step.{Step}
 use Rattle.step.specs.Order.{Less, promise}
 
 -- n in its place, unless it stands there already

@@ -11,8 +11,7 @@ use Rattle.program.proofs.Formed.{ProgramOk}
 use Rattle.machine.proofs.Formed.{MachineOk}
 use Rattle.sequences.specs.Sequences.{Among}
 use Rattle.sequences.specs.Lawful.{Lawful}
-use Rattle.step.specs.declared.Step.{Step}
-use Rattle.step.specs.Step.{Outcome, rejected, accepted, step, taken}
+use Rattle.step.specs.Step.{Step, Outcome, rejected, accepted, step, taken}
 use Rattle.step.specs.Order.{everyStep}
 use Rattle.step.proofs.Backwards.{Did, executed, promised, did}
 use Rattle.step.proofs.Bound.{potential, lowers, well-formed}

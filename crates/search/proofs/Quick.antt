@@ -16,8 +16,7 @@ use Rattle.sequences.specs.Answer.{Answer}
 use Rattle.sequences.proofs.Scan.{told}
 use Rattle.sequences.proofs.Fewer.{hunt}
 use Rattle.sequences.proofs.Alike.{stepped-by, hunt-alike}
-use Rattle.step.specs.declared.Step.{Step}
-use Rattle.step.specs.Step.{ruleStep, step, taken}
+use Rattle.step.specs.Step.{Step, ruleStep, step, taken}
 use Rattle.step.proofs.OwnPromise.{check-yes}
 use Rattle.step.proofs.Kept.{fresh-formed, kept}
 use Rattle.search.specs.Search.{stepping, answerTo}

@@ -8,7 +8,7 @@ use native.Mathlib.Nat.{eq-or-lt-of-le}
 use native.Mathlib.Omega.{arith}
 use Rattle.sequences.specs.Sequences.{Among, Ascending}
 use Rattle.sequences.proofs.Ordered.{among-left, among-right, among-cases, among-map, among-unmap, ascending-append}
-use Rattle.step.specs.declared.Step.{Step}
+use Rattle.step.specs.Step.{Step}
 use Rattle.step.specs.Order.{Less, range, forEach, execution, promise, executions, promises, everyStep}
 
 -- ---- of two steps at most one is before the other

@@ -6,8 +6,7 @@ use Rattle.program.specs.declared.Program.{Program}
 use Rattle.program.specs.Counts.{size}
 use Rattle.machine.specs.declared.Machine.{Machine}
 use Rattle.machine.specs.State.{fresh}
-use Rattle.step.specs.declared.Step.{Step}
-use Rattle.step.specs.Step.{step, taken}
+use Rattle.step.specs.Step.{Step, step, taken}
 use Rattle.step.specs.Order.{Less, everyStep}
 use Rattle.step.specs.Outcome.{asked}
 use Rattle.sequences.specs.Stepping.{Stepping}

@@ -21,7 +21,7 @@ use Rattle.machine.proofs.Effects.{Effect}
 use Rattle.machine.proofs.Formed.{MachineOk}
 use Rattle.certify.specs.Certify.{certified}
 use Rattle.certify.specs.Runs.{Run, Unlimited}
-use Rattle.certify.proofs.Certified.{certified-iff}
+use Rattle.certify.proofs.Iff.{certified-iff}
 use Rattle.certify.proofs.Fit.{outstanding, fits, promises-fit, unlimited-is-certifying}
 use Rattle.step.specs.Below.{Code, Program, Instr, Memory, Thread, Machine}
 use Rattle.step.specs.Step.{Step, Outcome, rejected, check, settle, promiseStep, kindStep, ruleStep, step}

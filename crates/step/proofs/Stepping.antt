@@ -9,70 +9,60 @@ use lib.Dec.{T, eqb, leb, ltb}
 use lib.ListN.{set}
 use borrow.Author.Tests.{lt-ltb, le-ltb, le-leb, lt-leb, eq-eqb, ne-eqb}
 use Rattle.program.specs.Program.{instrAt, codeOf}
+use Rattle.program.specs.WellFormed.{programTest}
 use Rattle.program.proofs.Formed.{CodeOk, ProgramOk, program-ok}
 use Rattle.machine.specs.State.{threadOf, append, with}
 use Rattle.machine.specs.Rules.{Executed, refused, next, execute, addPromise}
+use Rattle.machine.specs.WellFormed.{machineTest, Formed}
 use Rattle.machine.specs.Answers.{ruled, reach}
 use Rattle.machine.specs.declared.RuleAnswer.the-variants.{Done, Refused}
 use Rattle.machine.specs.declared.Ruled.{Ruled}
 use Rattle.machine.proofs.Sets.{with-small}
-use Rattle.machine.proofs.Cases.{reach-within, ruled-done}
+use Rattle.machine.proofs.Cases.{reach-within, ruled-done, ruled-refused}
 use Rattle.machine.proofs.Effects.{effect}
 use Rattle.machine.proofs.Formed.{ThreadOk, MachineOk, machine-iff}
 use Rattle.certify.specs.Certify.{certify, certified}
 use Rattle.certify.specs.Answers.{Ready}
+use Rattle.certify.proofs.Asked.{program-facts, of-four, ready-here}
 use Rattle.certify.proofs.Trying.{ready-after}
 use Rattle.step.specs.Below.{Code, Program, Instr, Message, Memory, Thread, Machine}
 use Rattle.step.specs.Step.{Step, Outcome, rejected, accepted, check, settle, settleRule, executeInstr, executeStep, promiseStep, kindStep, ruleStep, step}
-use Rattle.step.specs.Answers.{Taken, Stepped, stepped, Formed, Settling}
+use Rattle.step.specs.Answers.{Taken, Stepped, stepped, Settling}
 use Rattle.step.proofs.Backwards.{moved, promisedMemory, promisedThread}
 
 -- ---- what a well-formed program and machine give
-module _ (p : Program) (x : Machine) (o : Formed p x) where
-  pub program-facts : ProgramOk p
-  program-facts = program-ok p (o .program-formed)
+module _ (p : Program) (x : Machine) (o : Formed p x) (i : ℕ) (h : i < p .threads) where
+  -- the next instruction is within the code, and the position stays a byte
+  pub position-small : (c : Code) → c ≡ codeOf p i → (n : ℕ) → n < c .count → n < 16
+  position-small c e n l = let q = ap (λ (d : Code). d .count) e in let s = program-facts p x o .codes i h .short in omega arith
 
-  pub machine-facts : MachineOk p x
-  machine-facts = machine-iff p (program-facts .few-threads) x .0 (o .machine-formed)
+  pub reach-small : (c : Code) → c ≡ codeOf p i → (y : Instr) (n : ℕ) → instrAt c n ≡ some y → n + reach y < 256
+  reach-small c e y n g =
+      let k = reach-within (codeOf p i) (program-facts p x o .codes i h) n y (subst (λ (d : Code). instrAt d n ≡ some y) e g) in
+      let s = program-facts p x o .codes i h .short in
+      omega arith
 
-  module _ (i : ℕ) (h : i < p .threads) where
-    pub of-four : i < 4
-    of-four = let l = program-facts .few-threads in omega arith
+  -- after an executed instruction the thread can be certified
+  pub settling-after : (s : Thread) → s ≡ threadOf x i → (y : Instr) (t : ℕ) (r : Ruled) → r ≡ ruled s (execute y (x .memory) t s) → r .answer ≡ Done → Settling p i (x .memory) (r .thread)
+  settling-after s q y t r e d =
+      record {
+        in-program = of-four p x o i h;
+        ready = ready-after (subst (Ready (codeOf p i) (x .memory)) (sym q) (ready-here p x o i h)) (effect y (x .memory) t s (r .thread) (ruled-done s (execute y (x .memory) t s) r e d));
+      }
 
-    pub ready-here : Ready (codeOf p i) (x .memory) (threadOf x i)
-    ready-here = record { code-ok = program-facts .codes i h; room = machine-facts .memory-ok .room; promises-in = machine-facts .states i h .promises-in }
+  -- and after a promise
+  pub settling-promise : x .memory .count < 16 → (l v : ℕ) → Settling p i (promisedMemory x i l v) (promisedThread x i l v)
+  settling-promise few l v =
+      record {
+        in-program = of-four p x o i h;
+        ready = record { code-ok = program-facts p x o .codes i h; room = omega arith; promises-in = with-small ((threadOf x i) .promises) (x .memory .count) (ready-here p x o i h .promises-in) };
+      }
 
-    -- the next instruction is within the code, and the position stays a byte
-    pub position-small : (c : Code) → c ≡ codeOf p i → (n : ℕ) → n < c .count → n < 16
-    position-small c e n l = let q = ap (λ (d : Code). d .count) e in let s = program-facts .codes i h .short in omega arith
-
-    pub reach-small : (c : Code) → c ≡ codeOf p i → (y : Instr) (n : ℕ) → instrAt c n ≡ some y → n + reach y < 256
-    reach-small c e y n g =
-        let k = reach-within (codeOf p i) (program-facts .codes i h) n y (subst (λ (d : Code). instrAt d n ≡ some y) e g) in
-        let s = program-facts .codes i h .short in
-        omega arith
-
-    -- after an executed instruction the thread can be certified
-    pub settling-after : (s : Thread) → s ≡ threadOf x i → (y : Instr) (t : ℕ) (r : Ruled) → r ≡ ruled s (execute y (x .memory) t s) → r .answer ≡ Done → Settling p i (x .memory) (r .thread)
-    settling-after s q y t r e d =
-        record {
-          in-program = of-four;
-          ready = ready-after (subst (Ready (codeOf p i) (x .memory)) (sym q) ready-here) (effect y (x .memory) t s (r .thread) (ruled-done s (execute y (x .memory) t s) r e d));
-        }
-
-    -- and after a promise
-    pub settling-promise : x .memory .count < 16 → (l v : ℕ) → Settling p i (promisedMemory x i l v) (promisedThread x i l v)
-    settling-promise few l v =
-        record {
-          in-program = of-four;
-          ready = record { code-ok = program-facts .codes i h; room = omega arith; promises-in = with-small ((threadOf x i) .promises) (x .memory .count) (ready-here .promises-in) };
-        }
-
-    -- there is room for the promise in the set
-    pub with-room : (s : Thread) → s ≡ threadOf x i → x .memory .count < 16 → (0 < x .memory .count + 1) × ((x .memory .count + 1 ≤ 16) × (s .promises < 2 ^ (x .memory .count + 1 - 1)))
-    with-room s q few =
-        let n : x .memory .count + 1 - 1 ≡ x .memory .count = omega arith in
-        (omega arith, (omega arith, rw (n, q) (ready-here .promises-in)))
+  -- there is room for the promise in the set
+  pub with-room : (s : Thread) → s ≡ threadOf x i → x .memory .count < 16 → (0 < x .memory .count + 1) × ((x .memory .count + 1 ≤ 16) × (s .promises < 2 ^ (x .memory .count + 1 - 1)))
+  with-room s q few =
+      let n : x .memory .count + 1 - 1 ≡ x .memory .count = omega arith in
+      (omega arith, (omega arith, rw (n, q) (ready-here p x o i h .promises-in)))
 
 -- ---- certified or not
 module _ (p : Program) (x : Machine) (i : ℕ) (m : Memory) (s : Thread) (c : Code) (e : c ≡ codeOf p i) (b : Bool) (d : b ≡ certify (c .count) c i m s) where
@@ -108,11 +98,7 @@ module _ (p : Program) (x : Machine) (i t : ℕ) (c : Code) (e : c ≡ codeOf p 
     execute-done z = the-instr ∙ ap (settleRule p x i) (ruled-done s (execute y (x .memory) t s) r d z)
 
     pub execute-refused : (n : ℕ) → r .answer ≡ Refused n → executeStep p x i t ≡ rejected n
-    execute-refused n z = the-instr ∙ go (execute y (x .memory) t s) d
-      where
-        go : (o : Executed) → r ≡ ruled s o → settleRule p x i o ≡ rejected n
-        go (refused k) u = cc
-        go (next s') u = absurd (let w : _≡_ {A = ℕ} 0 1 = cc in omega arith)
+    execute-refused n z = the-instr ∙ ap (settleRule p x i) (ruled-refused s (execute y (x .memory) t s) r n d z)
 
 -- ---- promising
 module _ (p : Program) (x : Machine) (i l v : ℕ) where
@@ -158,3 +144,17 @@ module _ (p : Program) (x : Machine) (k : Step) where
     pub rule-promise : k .kind ≡ 1 → k .b < 256 → ruleStep p x k ≡ promiseStep p x (k .thread) (k .a) (k .b)
     unfolding kindStep
     rule-promise e n = past-21 ∙ ap (kindStep p x k) e ∙ rw (le-leb (k .b) 255 (omega arith))
+
+-- ---- a step asked of any program and machine
+module _ (p : Program) (x : Machine) (k : Step) (f : Bool) (e : f ≡ (programTest p && machineTest p x)) where
+  pub step-20 : f ≡ false → step p x k ≡ rejected 20
+  unfolding step
+  step-20 h = rw (sym e ∙ h)
+
+  pub step-formed : f ≡ true → step p x k ≡ ruleStep p x k
+  unfolding step
+  step-formed h = rw (sym e ∙ h)
+
+-- ---- answers that meet the contract coincide
+pub step-coincide : (p : Program) (x : Machine) (k : Step) (r r' : Stepped) → r ≡ stepped x (step p x k) → r' ≡ stepped x (step p x k) → r ≡ r'
+step-coincide p x k r r' d d' = d ∙ sym d'

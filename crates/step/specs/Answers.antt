@@ -1,10 +1,7 @@
 -- The answer of a step for the code: taken, or the refusal number, beside the machine; and what the code knows before a step.
 -- Assumes nothing.
 use Prim.Native.Nat.{ℕ, _<_}
-use lib.Dec.{T}
 use Rattle.program.specs.Program.{codeOf}
-use Rattle.program.specs.WellFormed.{programTest}
-use Rattle.machine.specs.WellFormed.{machineTest}
 use Rattle.certify.specs.Answers.{Ready}
 use Rattle.step.specs.Below.{Program, Memory, Thread, Machine}
 use Rattle.step.specs.Step.{Outcome, rejected, accepted}
@@ -21,11 +18,6 @@ stepped x (accepted y) = record { answer = Taken; machine = y }
 abbrev pub refusalOf : StepAnswer → ℕ
 refusalOf Taken = 0
 refusalOf (Refused n) = n
-
--- program and machine are well formed
-pub record Formed (p : Program) (x : Machine) : Type 0 where
-  pub program-formed : T (programTest p)
-  pub machine-formed : T (machineTest p x)
 
 -- thread i of the program can be certified on memory m
 pub record Settling (p : Program) (i : ℕ) (m : Memory) (s : Thread) : Type 0 where

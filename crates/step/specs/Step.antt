@@ -12,7 +12,11 @@ use Rattle.machine.specs.Rules.{Executed, refused, next, execute, addPromise}
 use Rattle.machine.specs.WellFormed.{machineTest}
 use Rattle.certify.specs.Certify.{certified}
 use Rattle.step.specs.Below.{Program, Instr, Memory, Thread, Machine}
-pub use Rattle.step.specs.declared.Step.{Step}
+use Rattle.step.specs.declared.TraceStep.{TraceStep}
+
+-- a step, as a trace has it: kind, thread, a, b
+abbrev pub Step : Type 0
+Step = TraceStep
 
 -- the answer of a step: a refusal number, or the next machine
 pub data Outcome : Type 0 where

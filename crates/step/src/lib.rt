@@ -1,8 +1,13 @@
 // One step of the machine: refused with a number and the machine as it came in, or taken with the next machine.
+mod checked;
+
+pub use checked::step;
+
 ghost use mathlib.Core.Path.{_≡_};
 ghost use Prim.Native.Nat.{_≤_, _<_};
 ghost use Rattle.step.specs.Step.{rejected, settle, executeStep, promiseStep, ruleStep, step};
-ghost use Rattle.step.specs.Answers.{stepped, Formed, Settling};
+ghost use Rattle.machine.specs.WellFormed.{Formed};
+ghost use Rattle.step.specs.Answers.{stepped, Settling};
 use certify::certify_within;
 use machine::Machine;
 use machine::Memory;
@@ -14,7 +19,7 @@ use machine::rules::execute;
 use program::Program;
 
 // As a trace has it: kind 0 executes at time a, b = 0; kind 1 promises location a, value b.
-pub struct Step {
+pub struct TraceStep {
     pub kind: u8,
     pub thread: u8,
     pub a: u8,
@@ -32,7 +37,7 @@ pub struct Stepped {
     pub machine: Machine,
 }
 
-fn refused(n: u8, x: Machine) -> Stepped
+pub fn refused(n: u8, x: Machine) -> Stepped
     ensures { λ r. ⌜ r ≡ stepped x (rejected n) ⌝ }
 {
     Stepped {
@@ -100,7 +105,7 @@ fn promise_step(p: Program, x: Machine, i: u8, l: u8, v: u8) -> Stepped
 }
 
 // The step on a program and a machine that are well formed.
-pub fn rule_step(p: Program, x: Machine, k: Step) -> Stepped
+pub fn rule_step(p: Program, x: Machine, k: TraceStep) -> Stepped
     requires { ⌜ Formed p x ⌝ }
     ensures { λ r. ⌜ r ≡ stepped x (ruleStep p x k) ⌝ }
 {

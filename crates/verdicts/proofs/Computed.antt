@@ -12,7 +12,7 @@ use Rattle.machine.specs.State.{freshThread, fresh, has, with, without}
 use Rattle.machine.specs.Rules.{combine, readable, noneNewer, readValue, loadAt, promised, storeAt, execute}
 use Rattle.certify.specs.Certify.{anyFrom, ownMessage, oneMore, certify, certified}
 use Rattle.certify.proofs.Candidates.{relaxed, storesReached, candidates}
-use Rattle.step.specs.Step.{settle, executeStep, promiseStep, kindStep, ruleStep}
+use Rattle.step.specs.Step.{Step, settle, executeStep, promiseStep, kindStep, ruleStep}
 use Rattle.step.specs.Order.{range, forEach}
 use Rattle.step.specs.Outcome.{complete, lastOf, lastValue, holds, questionHolds, asked}
 use Rattle.sequences.proofs.Fewer.{each, hunt}
@@ -21,7 +21,6 @@ use Rattle.search.proofs.Few.{keysOf, fewOf, few}
 use Rattle.search.proofs.Quick.{quick, quick-is}
 use Rattle.program.proofs.Tests.{and-left, and-right}
 use Rattle.sequences.specs.Answer.{Answer}
-use Rattle.step.specs.declared.Step.{Step}
 use Rattle.search.specs.Search.{answerTo}
 use Rattle.verdicts.specs.Cases.{Case, Right}
 

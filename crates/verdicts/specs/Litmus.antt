@@ -3,7 +3,7 @@
 use mathlib.Core.List.{List, [], _∷_, _++_}
 use Rattle.program.specs.declared.Instruction.{Instruction}
 use Rattle.program.specs.declared.Condition.{Condition}
-use Rattle.step.specs.declared.Step.{Step}
+use Rattle.step.specs.Step.{Step}
 use Rattle.step.specs.Order.{execution, promise}
 use Rattle.sequences.specs.Answer.{allowed, forbidden}
 use Rattle.verdicts.specs.Listing.{con, reg, add, xor, load, loadAcquire, loadWeakAcquire, store, storeRelease, control, dmbSy, dmbSt, isb, registerIs, locationIs, program}

@@ -2,7 +2,8 @@
 -- Assumes nothing.
 use mathlib.Core.Path.{sym, ap, _∙_}
 use Rattle.step.specs.Answers.{stepped}
-use Rattle.step.proofs.Stepping.{of-four, position-small, reach-small, machine-facts, settling-after, execute-end, execute-done, execute-refused}
+use Rattle.certify.proofs.Asked.{of-four, machine-facts}
+use Rattle.step.proofs.Stepping.{position-small, reach-small, settling-after, execute-end, execute-done, execute-refused}
 use borrow.Author.Needs.{needs}
 use Rattle.step.proofs.execute_step.Statement.{statement}
 use Rattle.step.proofs.execute_step.Tie as tie

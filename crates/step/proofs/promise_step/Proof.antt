@@ -2,7 +2,8 @@
 -- Assumes nothing.
 use mathlib.Core.Path.{sym, ap, _∙_}
 use Rattle.step.specs.Answers.{stepped}
-use Rattle.step.proofs.Stepping.{of-four, with-room, settling-promise, promise-23, promise-24, promise-settles}
+use Rattle.certify.proofs.Asked.{of-four}
+use Rattle.step.proofs.Stepping.{with-room, settling-promise, promise-23, promise-24, promise-settles}
 use borrow.Author.Needs.{needs}
 use Rattle.step.proofs.promise_step.Statement.{statement}
 use Rattle.step.proofs.promise_step.Tie as tie

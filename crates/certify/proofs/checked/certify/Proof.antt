@@ -1,0 +1,56 @@
+-- `certify::checked::certify` meets its contract: the refusals in order, then the test.
+-- Assumes nothing.
+use borrow.Author.Needs.{needs}
+use borrow.Author.Tests.{not-true, not-false}
+use Rattle.certify.proofs.Asked.{formed, of-four, ready-here, certify-20, certify-21, certify-yes, certify-no}
+use Rattle.certify.proofs.checked.certify.Statement.{statement}
+use Rattle.certify.proofs.checked.certify.Tie as tie
+
+both-formed-requires : tie.Need-both-formed-requires
+both-formed-requires c κs = search needs
+
+returns : tie.Need-returns
+returns c = certify-20 _ _ _ _ (c .before .both-formed .ensures) (not-true _ (c .if1 .taken))
+
+returns-2 : tie.Need-returns-2
+returns-2 c = let b = c .before .before in certify-21 _ _ _ _ (b .before .both-formed .ensures) (not-false _ (b .if1 .left)) (c .if2 .taken)
+
+code-of-requires : tie.Need-code-of-requires
+code-of-requires c κs = let b = c .before .before in of-four _ _ (formed _ _ _ (b .before .both-formed .ensures) (not-false _ (b .if1 .left))) _ (c .if2 .left)
+
+thread-of-requires : tie.Need-thread-of-requires
+thread-of-requires c κs = let b = c .before .before .before in of-four _ _ (formed _ _ _ (b .before .both-formed .ensures) (not-false _ (b .if1 .left))) _ (c .before .if2 .left)
+
+certify-within-requires : tie.Need-certify-within-requires
+certify-within-requires c κs =
+    let d = c .before .before in
+    let b = d .before .before in
+    rw (c .thread-of .ensures, c .before .code-of .ensures)
+    (ready-here _ _ (formed _ _ _ (b .before .both-formed .ensures) (not-false _ (b .if1 .left))) _ (d .if2 .left))
+
+returns-3 : tie.Need-returns-3
+returns-3 c =
+    let e = c .before .before in
+    let d = e .before .before in
+    let b = d .before .before in
+    certify-yes _ _ _ _ (b .before .both-formed .ensures) (not-false _ (b .if1 .left)) (d .if2 .left) _ (e .before .code-of .ensures) _ (e .thread-of .ensures) _ (c .before .certify-within .ensures) (c .if3 .taken)
+
+returns-4 : tie.Need-returns-4
+returns-4 c =
+    let e = c .before .before in
+    let d = e .before .before in
+    let b = d .before .before in
+    certify-no _ _ _ _ (b .before .both-formed .ensures) (not-false _ (b .if1 .left)) (d .if2 .left) _ (e .before .code-of .ensures) _ (e .thread-of .ensures) _ (c .before .certify-within .ensures) (c .if3 .left)
+
+pub certify-spec : {M : Type 1} → statement M
+certify-spec =
+    tie.close
+    (tie.spec
+    both-formed-requires
+    returns
+    returns-2
+    code-of-requires
+    thread-of-requires
+    certify-within-requires
+    returns-3
+    returns-4)

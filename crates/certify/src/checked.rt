@@ -1,0 +1,25 @@
+// Certification asked of any program, machine and thread: whether they are well formed is tested once, here.
+ghost use mathlib.Core.Path.{_≡_};
+ghost use Rattle.certify.specs.Answers.{certification};
+use crate::Certified;
+use crate::certify_within;
+use machine::Machine;
+use machine::well_formed::both_formed;
+use program::Program;
+
+pub fn certify(p: Program, x: Machine, i: u8) -> Certified
+    ensures { λ r. ⌜ r ≡ certification p x i ⌝ }
+{
+    if !both_formed(p, x) {
+        return Certified::Refused(20);
+    }
+    if p.threads <= i {
+        return Certified::Refused(21);
+    }
+    let c = p.code_of(i);
+    if certify_within(c.count, c, i, x.memory, x.thread_of(i)) {
+        Certified::Yes
+    } else {
+        Certified::No
+    }
+}
