@@ -8,12 +8,12 @@ use lib.Dec.{T}
 use borrow.Author.Tests.{lt-ltb, le-ltb}
 use Rattle.program.specs.Program.{codeOf}
 use Rattle.program.specs.WellFormed.{programTest}
-use Rattle.program.proofs.Tests.{and-left, and-right, is-true}
+use Rattle.program.proofs.Tests.{and-left, and-right}
 use Rattle.program.proofs.Formed.{ProgramOk, program-ok}
 use Rattle.machine.specs.State.{threadOf}
 use Rattle.machine.specs.WellFormed.{machineTest, Formed}
 use Rattle.machine.proofs.Formed.{MachineOk, machine-iff}
-use Rattle.certify.specs.Below.{Code, Program, Memory, Thread, Machine}
+use Rattle.certify.specs.Below.{Code, Program, Thread, Machine}
 use Rattle.certify.specs.Certify.{certify, certified}
 use Rattle.certify.specs.Answers.{Certified, Yes, No, Refused, certification, Ready}
 

@@ -1,28 +1,24 @@
 -- What the code of certification relies on, on plain values: which times are worth a try, and what each test says of the definition.
 -- Assumes nothing.
 use mathlib.Core.Path.{_≡_, refl, sym, ap, _∙_, subst}
-use mathlib.Core.Bool.{Bool, true, false, cond, _&&_, _||_}
-use mathlib.Core.Option.{Option, none, some}
+use mathlib.Core.Bool.{Bool, true, false, _||_}
+use mathlib.Core.Option.{none, some}
 use Prim.Native.Nat.{ℕ, zero, suc, _+_, _-_, _^_, _≤_, _<_}
 use native.Mathlib.Decide.{decLe, decLt}
 use native.Mathlib.Omega.{arith}
-use native.Mathlib.Numerals.{sub-one}
-use lib.Dec.{T, eqb, ltb}
+use lib.Dec.{T, eqb}
 use borrow.Author.Tests.{lt-ltb, le-ltb}
 use Rattle.program.specs.Program.{instrAt}
-use Rattle.program.proofs.Counts.{there}
-use Rattle.program.proofs.Formed.{CodeOk}
 use Rattle.machine.specs.State.{append, has}
-use Rattle.machine.specs.Rules.{Executed, refused, next, valueOf, address, execute, addPromise}
+use Rattle.machine.specs.Rules.{Executed, refused, next, execute, addPromise}
 use Rattle.machine.specs.Promises.{First}
 use Rattle.machine.specs.Answers.{ruled, reach, storeMessage, ownStore}
-use Rattle.machine.specs.declared.RuleAnswer.{RuleAnswer}
 use Rattle.machine.specs.declared.RuleAnswer.the-variants.{Done, Refused}
 use Rattle.machine.specs.declared.Ruled.{Ruled}
 use Rattle.machine.proofs.Sets.{without-small, grown-small}
 use Rattle.machine.proofs.Cases.{reach-within, ruled-done, ruled-refused}
-use Rattle.machine.proofs.Effects.{Effect, computed, loaded, stored, branched, fenced, effect, effect-time, readable-time, loadLocation}
-use Rattle.certify.specs.Below.{Code, Operand, ComputeMode, LoadMode, StoreMode, FenceMode, Instr, Compute, Load, Store, Branch, Fence, Message, Memory, Thread}
+use Rattle.machine.proofs.Effects.{Effect, computed, loaded, stored, branched, fenced, effect, effect-time}
+use Rattle.certify.specs.Below.{Code, Operand, ComputeMode, LoadMode, StoreMode, FenceMode, Instr, Compute, Load, Store, Branch, Fence, Memory, Thread}
 use Rattle.certify.specs.Certify.{anyFrom, messageOf, onward, ownMessage, oneMore, certify}
 use Rattle.certify.specs.Answers.{Ready, Trying, Only}
 use Rattle.certify.proofs.Fit.{own-effect, own-leaves}

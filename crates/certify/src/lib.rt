@@ -2,7 +2,6 @@
 mod checked;
 
 pub use checked::certify;
-
 ghost use mathlib.Core.Path.{_≡_};
 ghost use mathlib.Core.Option.{some};
 ghost use Prim.Native.Nat.{_+_, _-_, _≤_, _<_};

@@ -1,6 +1,6 @@
 -- What the tests of the code come to where they are not word for word those of the definition.
 -- Assumes nothing.
-use mathlib.Core.Path.{_≡_, refl, sym, ap, ap₂, subst, _∙_}
+use mathlib.Core.Path.{_≡_, refl, sym, ap₂, subst, _∙_}
 use mathlib.Core.Bool.{true, _&&_}
 use Prim.Native.Nat.{ℕ, zero, suc, _-_, _*_, _/_, _%_, _^_, _≤_}
 use native.Mathlib.Nat.{mod-eq-of-lt, one-mul}
@@ -13,7 +13,7 @@ use Rattle.views.specs.Views.{viewAt}
 use Rattle.program.specs.Tests.{below}
 use Rattle.program.proofs.Tests.{all-at}
 use Rattle.program.proofs.Loops.{below-same}
-use Rattle.machine.specs.State.{Memory, Thread, noMessage, freshForward, messageAt, has}
+use Rattle.machine.specs.State.{Memory, Thread, freshForward, has}
 use Rattle.machine.specs.WellFormed.{memoryTest}
 
 -- a memory that passes has at most 16 messages

@@ -5,14 +5,12 @@ use mathlib.Core.Bool.{Bool, true, false, _&&_}
 use mathlib.Core.Option.{some}
 use Prim.Native.Nat.{ℕ, zero, suc, _+_, _-_, _^_, _≤_, _<_}
 use native.Mathlib.Omega.{arith}
-use lib.Dec.{T, eqb, leb, ltb}
 use lib.ListN.{set}
 use borrow.Author.Tests.{lt-ltb, le-ltb, le-leb, lt-leb, eq-eqb, ne-eqb}
 use Rattle.program.specs.Program.{instrAt, codeOf}
 use Rattle.program.specs.WellFormed.{programTest}
-use Rattle.program.proofs.Formed.{CodeOk, ProgramOk, program-ok}
-use Rattle.machine.specs.State.{threadOf, append, with}
-use Rattle.machine.specs.Rules.{Executed, refused, next, execute, addPromise}
+use Rattle.machine.specs.State.{threadOf}
+use Rattle.machine.specs.Rules.{next, execute}
 use Rattle.machine.specs.WellFormed.{machineTest, Formed}
 use Rattle.machine.specs.Answers.{ruled, reach}
 use Rattle.machine.specs.declared.RuleAnswer.the-variants.{Done, Refused}
@@ -20,13 +18,12 @@ use Rattle.machine.specs.declared.Ruled.{Ruled}
 use Rattle.machine.proofs.Sets.{with-small}
 use Rattle.machine.proofs.Cases.{reach-within, ruled-done, ruled-refused}
 use Rattle.machine.proofs.Effects.{effect}
-use Rattle.machine.proofs.Formed.{ThreadOk, MachineOk, machine-iff}
 use Rattle.certify.specs.Certify.{certify, certified}
 use Rattle.certify.specs.Answers.{Ready}
 use Rattle.certify.proofs.Asked.{program-facts, of-four, ready-here}
 use Rattle.certify.proofs.Trying.{ready-after}
-use Rattle.step.specs.Below.{Code, Program, Instr, Message, Memory, Thread, Machine}
-use Rattle.step.specs.Step.{Step, Outcome, rejected, accepted, check, settle, settleRule, executeInstr, executeStep, promiseStep, kindStep, ruleStep, step}
+use Rattle.step.specs.Below.{Code, Program, Instr, Memory, Thread, Machine}
+use Rattle.step.specs.Step.{Step, rejected, settle, settleRule, executeInstr, executeStep, promiseStep, kindStep, ruleStep, step}
 use Rattle.step.specs.Answers.{Taken, Stepped, stepped, Settling}
 use Rattle.step.proofs.Backwards.{moved, promisedMemory, promisedThread}
 

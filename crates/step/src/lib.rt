@@ -2,7 +2,6 @@
 mod checked;
 
 pub use checked::step;
-
 ghost use mathlib.Core.Path.{_≡_};
 ghost use Prim.Native.Nat.{_≤_, _<_};
 ghost use Rattle.step.specs.Step.{rejected, settle, executeStep, promiseStep, ruleStep, step};

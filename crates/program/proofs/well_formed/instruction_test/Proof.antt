@@ -1,6 +1,6 @@
 -- `program::well_formed::instruction_test` meets its contract: all pass where none fails.
 -- Assumes nothing.
-use mathlib.Core.Path.{_≡_, ap, _∙_}
+use mathlib.Core.Path.{ap, _∙_}
 use borrow.Author.Needs.{needs}
 use lib.Dec.{eqb}
 use Prim.Native.Nat.{ℕ}
