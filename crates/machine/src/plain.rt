@@ -11,7 +11,7 @@ use program::ComputeMode;
 use program::FenceMode;
 use program::Operand;
 
-fn combine(k: ComputeMode, x: u8, y: u8) -> u8
+pub fn combine(k: ComputeMode, x: u8, y: u8) -> u8
     ensures { λ r. ⌜ r ≡ combine k x y ⌝ }
 {
     match k {

@@ -16,6 +16,7 @@ use Rattle.machine.specs.declared.Machine.{Machine}
 use Rattle.machine.specs.State.{fresh, threadOf}
 use Rattle.machine.proofs.Effects.{effect-time}
 use Rattle.machine.proofs.Formed.{MachineOk}
+use Rattle.certify.specs.Certify.{certified}
 use Rattle.certify.proofs.Candidates.{Write, isIn, candidates}
 use Rattle.certify.proofs.Law.{candidate-law}
 use Rattle.sequences.specs.Sequences.{Among, Ascending, branches}
@@ -24,7 +25,7 @@ use Rattle.sequences.proofs.Scan.{told}
 use Rattle.sequences.proofs.Fewer.{hunt, hunt-answer, rising-same}
 use Rattle.step.specs.Step.{Step, accepted, step}
 use Rattle.step.specs.Order.{Less, range, forEach, execution, promise, everyStep}
-use Rattle.step.proofs.Backwards.{Did, executed, promised, did}
+use Rattle.step.proofs.Backwards.{promisedMemory, promisedThread, Did, executed, promised, did}
 use Rattle.step.proofs.Bound.{well-formed}
 use Rattle.search.specs.Search.{stepping, sequencesOf, answerTo}
 use Rattle.search.proofs.Steps.{range-low, range-has, each-has, each-from, each-ascending, map-ascending, execution-tried, promise-tried}
@@ -147,6 +148,13 @@ module _ (p : Program) (x : Machine) where
   unfolding few
   in-few i k h l a = each-has (fewOf p x) i k (range 0 (min 4 (p .threads))) (range-has 0 (min 4 (p .threads)) i (omega arith) (omega arith)) a
 
+  pub is-candidate : MachineOk p x → (i l v : ℕ) → i < p .threads → x .memory .count < 16
+      → T (certified (codeOf p i) i (promisedMemory x i l v) (promisedThread x i l v)) → T (isIn (candidates (codeOf p i) (x .memory) (threadOf x i)) l v)
+  is-candidate mo i l v h room q =
+      let o = mo .states i h in
+      candidate-law (codeOf p i) i l v (x .memory) (threadOf x i)
+      (record { places = mo .memory-ok .places; locations = o .locations; forwards = o .forward-times; promises-in = o .promises-in }) room q
+
   few-did : ProgramOk p → MachineOk p x → {k : Step} {y : Machine} → Did p x k y → Among k (few p x)
   unfolding fewOf
   few-did po mo (executed {i} {t} c s h g e q) =
@@ -156,8 +164,7 @@ module _ (p : Program) (x : Machine) where
       (among-left (execution i t) (map (execution i) (range 0 (times x))) (map (keyPromise i) (keys p x i))
       (among-map (execution i) t (range 0 (times x)) (range-has 0 (times x) t (omega arith) (omega arith))))
   few-did po mo (promised {i} {l} {v} h low byte room q) =
-      let o = mo .states i h in
-      let c = candidate-law (codeOf p i) i l v (x .memory) (threadOf x i) (record { places = mo .memory-ok .places; locations = o .locations; forwards = o .forward-times; promises-in = o .promises-in }) room q in
+      let c = is-candidate mo i l v h room q in
       let a : (l * 256 + v) / 256 ≡ l = omega arith in
       let b : (l * 256 + v) % 256 ≡ v = omega arith in
       in-few i (promise i l v) h (po .few-threads)

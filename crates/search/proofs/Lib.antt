@@ -4,3 +4,4 @@ pub mod Machine
 pub mod Answer
 pub mod Few
 pub mod Quick
+pub mod Possible

@@ -1,0 +1,7 @@
+pub mod Collected
+pub mod Places
+pub mod Holding
+pub mod Leasts
+pub mod Readings
+pub mod Instructions
+pub mod Passing
