@@ -1,0 +1,104 @@
+-- What the code of replay relies on: the record at a place, and a replay that has come to it.
+-- Assumes nothing.
+use mathlib.Core.Path.{_≡_, refl, sym, ap, _∙_}
+use mathlib.Core.Bool.{_&&_}
+use mathlib.Core.List.{List, [], _∷_}
+use Prim.Native.Nat.{ℕ, suc, _+_, _-_, _*_, _≤_, _<_}
+use native.Mathlib.Omega.{arith}
+use lib.Dec.{T, eqb}
+use lib.ListN.{length, drop, length-drop, drop-of-length-le}
+use lib.Seq.{drop-cons}
+use borrow.Author.Tests.{eq-eqb, ne-eqb}
+use Rattle.program.specs.declared.Program.{Program}
+use Rattle.program.specs.WellFormed.{programTest}
+use Rattle.program.specs.File.{byteAt}
+use Rattle.machine.specs.declared.Machine.{Machine}
+use Rattle.machine.specs.State.{fresh}
+use Rattle.machine.specs.WellFormed.{Formed}
+use Rattle.step.specs.declared.TraceStep.{TraceStep}
+use Rattle.step.specs.declared.Stepped.{Stepped}
+use Rattle.step.specs.declared.StepAnswer.the-variants.{Taken, Refused}
+use Rattle.step.specs.Step.{ruleStep, step}
+use Rattle.step.specs.Answers.{stepped, refusalOf}
+use Rattle.step.proofs.Answered.{rule-taken, rule-refused, taken-formed}
+use Rattle.step.proofs.Kept.{fresh-formed}
+use Rattle.replay.specs.Replay.{ended, broken, marked, onward, replayFrom}
+use Rattle.replay.specs.Answers.{stepAt}
+
+-- ---- a record that is cut off
+cut-off : (p : Program) (n : ℕ) (x : Machine) (t : List ℕ) → 0 < length t → length t < 6 → replayFrom p n x t ≡ broken 1 n x
+unfolding replayFrom
+cut-off p n x [] h l = absurd (omega arith)
+cut-off p n x (c ∷ []) h l = refl
+cut-off p n x (c ∷ d ∷ []) h l = refl
+cut-off p n x (c ∷ d ∷ k ∷ []) h l = refl
+cut-off p n x (c ∷ d ∷ k ∷ i ∷ []) h l = refl
+cut-off p n x (c ∷ d ∷ k ∷ i ∷ u ∷ []) h l = refl
+cut-off p n x (c ∷ d ∷ k ∷ i ∷ u ∷ v ∷ t) h l = absurd (omega arith)
+
+-- ---- a record that is there
+module _ (t : List ℕ) where
+  next : (j k : ℕ) → k ≡ suc j → j < length t → drop j t ≡ byteAt t j ∷ drop k t
+  next j k e h = drop-cons t j 0 h ∙ ap (λ (i : ℕ). byteAt t j ∷ drop i t) (sym e)
+
+  record-at : (j : ℕ) → j + 6 ≤ length t → drop j t ≡ byteAt t j ∷ byteAt t (j + 1) ∷ byteAt t (j + 2) ∷ byteAt t (j + 3) ∷ byteAt t (j + 4) ∷ byteAt t (j + 5) ∷ drop (j + 6) t
+  record-at j h =
+      rw (
+        next j (j + 1) (omega arith) (omega arith),
+        next (j + 1) (j + 2) (omega arith) (omega arith),
+        next (j + 2) (j + 3) (omega arith) (omega arith),
+        next (j + 3) (j + 4) (omega arith) (omega arith),
+        next (j + 4) (j + 5) (omega arith) (omega arith),
+        next (j + 5) (j + 6) (omega arith) (omega arith),
+      )
+
+-- ---- n records are taken: the replay of the whole is that of the rest
+pub record Replaying (p : Program) (t : List ℕ) (n j : ℕ) (x : Machine) : Type 0 where
+  pub well : Formed p x
+  pub place : j ≡ 6 * n
+  pub within : j ≤ length t
+  pub rest : replayFrom p 0 fresh t ≡ replayFrom p n x (drop j t)
+
+module _ (p : Program) (t : List ℕ) where
+  pub begins : T (programTest p) → Replaying p t 0 0 fresh
+  begins h = record { well = record { program-formed = h; machine-formed = fresh-formed p h }; place = refl; within = omega arith; rest = refl }
+
+  module _ {n j : ℕ} {x : Machine} (r : Replaying p t n j x) where
+    pub at-end : length t ≤ j → replayFrom p 0 fresh t ≡ ended n x
+    unfolding replayFrom
+    at-end h = r .rest ∙ ap (replayFrom p n x) (drop-of-length-le t h)
+
+    pub cut : j < length t → length t - j < 6 → replayFrom p 0 fresh t ≡ broken 1 n x
+    cut h l = r .rest ∙ cut-off p n x (drop j t) (rw (length-drop j t) (omega arith)) (rw (length-drop j t) (omega arith))
+
+    module _ (full : j + 6 ≤ length t) where
+      the-record : replayFrom p 0 fresh t ≡ marked (eqb (byteAt t j) 0x53 && eqb (byteAt t (j + 1)) 0x54) n x (onward (λ y. replayFrom p (suc n) y (drop (j + 6) t)) n x (step p x (stepAt t j)))
+      unfolding replayFrom
+      the-record = r .rest ∙ ap (replayFrom p n x) (record-at t j full)
+
+      pub first-mark : (byteAt t j ≡ 0x53 → ⊥) → replayFrom p 0 fresh t ≡ broken 2 n x
+      first-mark h = the-record ∙ rw (ne-eqb (byteAt t j) 0x53 h)
+
+      module _ (m : byteAt t j ≡ 0x53) where
+        pub second-mark : (byteAt t (j + 1) ≡ 0x54 → ⊥) → replayFrom p 0 fresh t ≡ broken 2 n x
+        second-mark h = the-record ∙ rw (eq-eqb (byteAt t j) 0x53 m, ne-eqb (byteAt t (j + 1)) 0x54 h)
+
+        module _ (m' : byteAt t (j + 1) ≡ 0x54) (k : TraceStep) (s : k ≡ stepAt t j) (a : Stepped) (e : a ≡ stepped x (ruleStep p x k)) where
+          the-step : replayFrom p 0 fresh t ≡ onward (λ y. replayFrom p (suc n) y (drop (j + 6) t)) n x (step p x k)
+          the-step = the-record ∙ rw (eq-eqb (byteAt t j) 0x53 m, eq-eqb (byteAt t (j + 1)) 0x54 m', s)
+
+          pub step-refused : (i o : ℕ) → o ≡ refusalOf (a .answer) → a .answer ≡ Refused i → replayFrom p 0 fresh t ≡ broken o n x
+          step-refused i o q h =
+              the-step ∙ ap (onward (λ y. replayFrom p (suc n) y (drop (j + 6) t)) n x) (rule-refused p x (r .well) k a e i h)
+              ∙ ap (λ (b : ℕ). broken b n x) (sym (q ∙ ap refusalOf h))
+
+          pub step-taken : a .answer ≡ Taken → Replaying p t (n + 1) (j + 6) (a .machine)
+          step-taken h =
+              record {
+                well = taken-formed p x (r .well) k a e h;
+                place = let q = r .place in omega arith;
+                within = full;
+                rest =
+                    the-step ∙ ap (onward (λ y. replayFrom p (suc n) y (drop (j + 6) t)) n x) (rule-taken p x (r .well) k a e h)
+                    ∙ (let q : suc n ≡ n + 1 = omega arith in ap (λ (i : ℕ). replayFrom p i (a .machine) (drop (j + 6) t)) q);
+              }

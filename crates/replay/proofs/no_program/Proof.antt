@@ -1,0 +1,11 @@
+-- `replay::no_program` meets its contract.
+-- Assumes nothing.
+use borrow.Author.Needs.{needs}
+use Rattle.replay.proofs.no_program.Statement.{statement}
+use Rattle.replay.proofs.no_program.Tie as tie
+
+returns : tie.Need-returns
+returns c t = rw (c .fresh .ensures, c .before .pre)
+
+pub no-program-spec : {M : Type 1} → statement M
+no-program-spec = tie.close (tie.spec (λ c κs. search needs) returns)

@@ -1,0 +1,38 @@
+-- A step's answer read backwards.
+-- Assumes nothing.
+use mathlib.Core.Path.{_≡_, refl, sym, ap, _∙_}
+use mathlib.Core.Bool.{true}
+use Prim.Native.Nat.{ℕ}
+use native.Mathlib.Omega.{arith}
+use Rattle.program.specs.WellFormed.{programTest}
+use Rattle.program.proofs.Tests.{and-both, is-true}
+use Rattle.machine.specs.WellFormed.{machineTest, Formed}
+use Rattle.step.specs.Below.{Program, Machine}
+use Rattle.step.specs.Step.{Step, Outcome, rejected, accepted, ruleStep, step}
+use Rattle.step.specs.Answers.{Taken, Refused, Stepped, stepped}
+use Rattle.step.proofs.Stepping.{step-formed}
+use Rattle.step.proofs.Kept.{kept}
+
+module _ (x : Machine) (r : Stepped) where
+  stepped-taken : (o : Outcome) → r ≡ stepped x o → r .answer ≡ Taken → o ≡ accepted (r .machine)
+  stepped-taken (rejected n) e h = let q : r .answer ≡ Refused n = ap (λ (y : Stepped). y .answer) e in absurd (let z : _≡_ {A = ℕ} 0 1 = cc in omega arith)
+  stepped-taken (accepted y) e h = ap (λ (z : Stepped). accepted (z .machine)) (sym e)
+
+  stepped-refused : (n : ℕ) (o : Outcome) → r ≡ stepped x o → r .answer ≡ Refused n → o ≡ rejected n
+  stepped-refused n (rejected k) e h = let q : r .answer ≡ Refused k = ap (λ (y : Stepped). y .answer) e in let z : k ≡ n = cc in ap rejected z
+  stepped-refused n (accepted y) e h = let q : r .answer ≡ Taken = ap (λ (z : Stepped). z .answer) e in absurd (let z : _≡_ {A = ℕ} 0 1 = cc in omega arith)
+
+-- on a well-formed program and machine the rules decide
+module _ (p : Program) (x : Machine) (o : Formed p x) (k : Step) (r : Stepped) (e : r ≡ stepped x (ruleStep p x k)) where
+  by-rule : step p x k ≡ ruleStep p x k
+  by-rule = step-formed p x k true (sym (is-true _ (and-both (programTest p) (machineTest p x) (o .program-formed) (o .machine-formed)))) refl
+
+  pub rule-taken : r .answer ≡ Taken → step p x k ≡ accepted (r .machine)
+  rule-taken h = by-rule ∙ stepped-taken x r (ruleStep p x k) e h
+
+  pub rule-refused : (n : ℕ) → r .answer ≡ Refused n → step p x k ≡ rejected n
+  rule-refused n h = by-rule ∙ stepped-refused x r n (ruleStep p x k) e h
+
+  -- the machine after a step that is taken is well formed again
+  pub taken-formed : r .answer ≡ Taken → Formed p (r .machine)
+  taken-formed h = record { program-formed = o .program-formed; machine-formed = kept p x (r .machine) k (rule-taken h) }
