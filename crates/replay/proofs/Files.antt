@@ -4,15 +4,16 @@ use mathlib.Core.Path.{_≡_, sym, ap, ap₂, _∙_}
 use mathlib.Core.List.{List}
 use Prim.Native.Nat.{ℕ}
 use native.Mathlib.Omega.{arith}
-use lib.Dec.{T}
 use Rattle.program.specs.declared.FileRead.{FileRead}
 use Rattle.program.specs.declared.ReadAnswer.the-variants.{Good, Refused}
 use Rattle.program.specs.Program.{noProgram}
-use Rattle.program.specs.WellFormed.{programTest}
 use Rattle.program.specs.File.{FileAnswer, refused, program, readFile}
 use Rattle.program.specs.Answers.{fileRead}
 use Rattle.program.proofs.ReadFormed.{read-formed}
+use Rattle.machine.specs.declared.Machine.{Machine}
 use Rattle.machine.specs.State.{fresh}
+use Rattle.machine.specs.WellFormed.{Formed}
+use Rattle.step.proofs.Kept.{fresh-formed}
 use Rattle.replay.specs.Replay.{replayFrom}
 use Rattle.replay.specs.Answers.{Replayed, answered, onProgram, replay}
 
@@ -24,8 +25,8 @@ module _ (f : List ℕ) (r : FileRead) (e : r ≡ fileRead (readFile f)) where
       go (refused n place) q = let z : r .answer ≡ Refused n place = ap (λ (y : FileRead). y .answer) q in absurd (let w : _≡_ {A = ℕ} 0 1 = cc in omega arith)
       go (program p) q = ap (λ (y : FileRead). program (y .program)) (sym q)
 
-  pub good-formed : r .answer ≡ Good → T (programTest (r .program))
-  good-formed h = read-formed f (r .program) (read-good h)
+  pub good-formed : r .answer ≡ Good → Formed (r .program) fresh
+  good-formed h = let w = read-formed f (r .program) (read-good h) in record { program-formed = w; machine-formed = fresh-formed (r .program) w }
 
   pub read-refused : (n place : ℕ) → r .answer ≡ Refused n place → (readFile f ≡ refused n place) × (r .program ≡ noProgram)
   read-refused n place h = go (readFile f) e
@@ -39,9 +40,10 @@ module _ (f : List ℕ) (r : FileRead) (e : r ≡ fileRead (readFile f)) where
       go (program p) q = let z : r .answer ≡ Good = ap (λ (y : FileRead). y .answer) q in absurd (let w : _≡_ {A = ℕ} 0 1 = cc in omega arith)
 
   -- ---- the replay, by the reader's answer
-  pub good-replay : (t : List ℕ) (a : Replayed) → a ≡ answered (r .program) (replayFrom (r .program) 0 fresh t) → r .answer ≡ Good → a ≡ replay f t
+  pub good-replay : (t : List ℕ) (a : Replayed) (x : Machine) → x ≡ fresh → a ≡ answered (r .program) (replayFrom (r .program) 0 x t) → r .answer ≡ Good → a ≡ replay f t
   unfolding replay
-  good-replay t a q h = q ∙ ap (λ (b : FileAnswer). onProgram b t) (sym (read-good h))
+  good-replay t a x s q h =
+      q ∙ ap (λ (y : Machine). answered (r .program) (replayFrom (r .program) 0 y t)) s ∙ ap (λ (b : FileAnswer). onProgram b t) (sym (read-good h))
 
   pub refused-replay : (t : List ℕ) (a : Replayed) (n place : ℕ) → ((t : List ℕ) → a ≡ onProgram (refused n place) t) → r .answer ≡ Refused n place → a ≡ replay f t
   unfolding replay

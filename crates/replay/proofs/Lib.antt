@@ -1,2 +1,5 @@
 pub mod Records
 pub mod Files
+pub mod Good
+pub mod Parts
+pub mod Bytes

@@ -3,17 +3,15 @@
 use mathlib.Core.Path.{_≡_, refl, sym, ap, _∙_}
 use mathlib.Core.Bool.{_&&_}
 use mathlib.Core.List.{List, [], _∷_}
-use Prim.Native.Nat.{ℕ, suc, _+_, _-_, _*_, _≤_, _<_}
+use Prim.Native.Nat.{ℕ, suc, _+_, _*_, _≤_, _<_}
 use native.Mathlib.Omega.{arith}
-use lib.Dec.{T, eqb}
+use lib.Dec.{eqb}
 use lib.ListN.{length, drop, length-drop, drop-of-length-le}
 use lib.Seq.{drop-cons}
 use borrow.Author.Tests.{eq-eqb, ne-eqb}
 use Rattle.program.specs.declared.Program.{Program}
-use Rattle.program.specs.WellFormed.{programTest}
 use Rattle.program.specs.File.{byteAt}
 use Rattle.machine.specs.declared.Machine.{Machine}
-use Rattle.machine.specs.State.{fresh}
 use Rattle.machine.specs.WellFormed.{Formed}
 use Rattle.step.specs.declared.TraceStep.{TraceStep}
 use Rattle.step.specs.declared.Stepped.{Stepped}
@@ -21,7 +19,6 @@ use Rattle.step.specs.declared.StepAnswer.the-variants.{Taken, Refused}
 use Rattle.step.specs.Step.{ruleStep, step}
 use Rattle.step.specs.Answers.{stepped, refusalOf}
 use Rattle.step.proofs.Answered.{rule-taken, rule-refused, taken-formed}
-use Rattle.step.proofs.Kept.{fresh-formed}
 use Rattle.replay.specs.Replay.{ended, broken, marked, onward, replayFrom}
 use Rattle.replay.specs.Answers.{stepAt}
 
@@ -52,53 +49,67 @@ module _ (t : List ℕ) where
         next (j + 5) (j + 6) (omega arith) (omega arith),
       )
 
--- ---- n records are taken: the replay of the whole is that of the rest
-pub record Replaying (p : Program) (t : List ℕ) (n j : ℕ) (x : Machine) : Type 0 where
+-- ---- n of the whole records are taken: the replay of the whole is that of the rest
+pub record Replaying (p : Program) (start : Machine) (t : List ℕ) (records n : ℕ) (x : Machine) : Type 0 where
   pub well : Formed p x
-  pub place : j ≡ 6 * n
-  pub within : j ≤ length t
-  pub rest : replayFrom p 0 fresh t ≡ replayFrom p n x (drop j t)
+  pub taken : n ≤ records
+  pub whole : 6 * records ≤ length t
+  pub last : length t < 6 * records + 6
+  pub rest : replayFrom p 0 start t ≡ replayFrom p n x (drop (6 * n) t)
 
-module _ (p : Program) (t : List ℕ) where
-  pub begins : T (programTest p) → Replaying p t 0 0 fresh
-  begins h = record { well = record { program-formed = h; machine-formed = fresh-formed p h }; place = refl; within = omega arith; rest = refl }
+module _ (p : Program) (start : Machine) (t : List ℕ) (records : ℕ) where
+  pub begins : Formed p start → 6 * records ≤ length t → length t < 6 * records + 6 → Replaying p start t records 0 start
+  begins h whole last = record { well = h; taken = omega arith; whole = whole; last = last; rest = refl }
 
-  module _ {n j : ℕ} {x : Machine} (r : Replaying p t n j x) where
-    pub at-end : length t ≤ j → replayFrom p 0 fresh t ≡ ended n x
-    unfolding replayFrom
-    at-end h = r .rest ∙ ap (replayFrom p n x) (drop-of-length-le t h)
+  module _ {n : ℕ} {x : Machine} (r : Replaying p start t records n x) where
+    -- ---- no whole record is left
+    module _ (h : records ≤ n) where
+      all-taken : replayFrom p 0 start t ≡ replayFrom p records x (drop (6 * records) t)
+      all-taken = let w = r .taken in let e : n ≡ records = omega arith in r .rest ∙ ap (λ (i : ℕ). replayFrom p i x (drop (6 * i) t)) e
 
-    pub cut : j < length t → length t - j < 6 → replayFrom p 0 fresh t ≡ broken 1 n x
-    cut h l = r .rest ∙ cut-off p n x (drop j t) (rw (length-drop j t) (omega arith)) (rw (length-drop j t) (omega arith))
-
-    module _ (full : j + 6 ≤ length t) where
-      the-record : replayFrom p 0 fresh t ≡ marked (eqb (byteAt t j) 0x53 && eqb (byteAt t (j + 1)) 0x54) n x (onward (λ y. replayFrom p (suc n) y (drop (j + 6) t)) n x (step p x (stepAt t j)))
+      pub at-end : length t ≤ 6 * records → replayFrom p 0 start t ≡ ended records x
       unfolding replayFrom
-      the-record = r .rest ∙ ap (replayFrom p n x) (record-at t j full)
+      at-end l = all-taken ∙ ap (replayFrom p records x) (drop-of-length-le t l)
 
-      pub first-mark : (byteAt t j ≡ 0x53 → ⊥) → replayFrom p 0 fresh t ≡ broken 2 n x
-      first-mark h = the-record ∙ rw (ne-eqb (byteAt t j) 0x53 h)
+      pub cut : 6 * records < length t → replayFrom p 0 start t ≡ broken 1 records x
+      cut l = let w = r .last in all-taken ∙ cut-off p records x (drop (6 * records) t) (rw (length-drop (6 * records) t) (omega arith)) (rw (length-drop (6 * records) t) (omega arith))
 
-      module _ (m : byteAt t j ≡ 0x53) where
-        pub second-mark : (byteAt t (j + 1) ≡ 0x54 → ⊥) → replayFrom p 0 fresh t ≡ broken 2 n x
-        second-mark h = the-record ∙ rw (eq-eqb (byteAt t j) 0x53 m, ne-eqb (byteAt t (j + 1)) 0x54 h)
+    -- ---- a record is left
+    module _ (left : n < records) where
+      pub full : 6 * n + 6 ≤ length t
+      full = let w = r .whole in omega arith
 
-        module _ (m' : byteAt t (j + 1) ≡ 0x54) (k : TraceStep) (s : k ≡ stepAt t j) (a : Stepped) (e : a ≡ stepped x (ruleStep p x k)) where
-          the-step : replayFrom p 0 fresh t ≡ onward (λ y. replayFrom p (suc n) y (drop (j + 6) t)) n x (step p x k)
-          the-step = the-record ∙ rw (eq-eqb (byteAt t j) 0x53 m, eq-eqb (byteAt t (j + 1)) 0x54 m', s)
+      the-record : replayFrom p 0 start t ≡ marked (eqb (byteAt t (6 * n)) 0x53 && eqb (byteAt t (6 * n + 1)) 0x54) n x (onward (λ y. replayFrom p (suc n) y (drop (6 * n + 6) t)) n x (step p x (stepAt t (6 * n))))
+      unfolding replayFrom
+      the-record = r .rest ∙ ap (replayFrom p n x) (record-at t (6 * n) full)
 
-          pub step-refused : (i o : ℕ) → o ≡ refusalOf (a .answer) → a .answer ≡ Refused i → replayFrom p 0 fresh t ≡ broken o n x
+      pub first-mark : (byteAt t (6 * n) ≡ 0x53 → ⊥) → replayFrom p 0 start t ≡ broken 2 n x
+      first-mark h = the-record ∙ rw (ne-eqb (byteAt t (6 * n)) 0x53 h)
+
+      module _ (m : byteAt t (6 * n) ≡ 0x53) where
+        pub second-mark : (byteAt t (6 * n + 1) ≡ 0x54 → ⊥) → replayFrom p 0 start t ≡ broken 2 n x
+        second-mark h = the-record ∙ rw (eq-eqb (byteAt t (6 * n)) 0x53 m, ne-eqb (byteAt t (6 * n + 1)) 0x54 h)
+
+        module _ (m' : byteAt t (6 * n + 1) ≡ 0x54) (k : TraceStep) (s : k ≡ stepAt t (6 * n)) (a : Stepped) (e : a ≡ stepped x (ruleStep p x k)) where
+          the-step : replayFrom p 0 start t ≡ onward (λ y. replayFrom p (suc n) y (drop (6 * n + 6) t)) n x (step p x k)
+          the-step = the-record ∙ rw (eq-eqb (byteAt t (6 * n)) 0x53 m, eq-eqb (byteAt t (6 * n + 1)) 0x54 m', s)
+
+          pub step-refused : (i o : ℕ) → o ≡ refusalOf (a .answer) → a .answer ≡ Refused i → replayFrom p 0 start t ≡ broken o n x
           step-refused i o q h =
-              the-step ∙ ap (onward (λ y. replayFrom p (suc n) y (drop (j + 6) t)) n x) (rule-refused p x (r .well) k a e i h)
+              the-step ∙ ap (onward (λ y. replayFrom p (suc n) y (drop (6 * n + 6) t)) n x) (rule-refused p x (r .well) k a e i h)
               ∙ ap (λ (b : ℕ). broken b n x) (sym (q ∙ ap refusalOf h))
 
-          pub step-taken : a .answer ≡ Taken → Replaying p t (n + 1) (j + 6) (a .machine)
+          pub step-taken : a .answer ≡ Taken → Replaying p start t records (n + 1) (a .machine)
           step-taken h =
+              let place : 6 * n + 6 ≡ 6 * (n + 1) = omega arith in
+              let number : suc n ≡ n + 1 = omega arith in
               record {
                 well = taken-formed p x (r .well) k a e h;
-                place = let q = r .place in omega arith;
-                within = full;
+                taken = omega arith;
+                whole = r .whole;
+                last = r .last;
                 rest =
-                    the-step ∙ ap (onward (λ y. replayFrom p (suc n) y (drop (j + 6) t)) n x) (rule-taken p x (r .well) k a e h)
-                    ∙ (let q : suc n ≡ n + 1 = omega arith in ap (λ (i : ℕ). replayFrom p i (a .machine) (drop (j + 6) t)) q);
+                    the-step ∙ ap (onward (λ y. replayFrom p (suc n) y (drop (6 * n + 6) t)) n x) (rule-taken p x (r .well) k a e h)
+                    ∙ ap (λ (i : ℕ). replayFrom p i (a .machine) (drop (6 * n + 6) t)) number
+                    ∙ ap (λ (j : ℕ). replayFrom p (n + 1) (a .machine) (drop j t)) place;
               }

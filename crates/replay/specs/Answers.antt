@@ -6,6 +6,7 @@ use Prim.Native.Nat.{ℕ, _+_, _*_}
 use Rattle.program.specs.declared.Program.{Program}
 use Rattle.program.specs.Program.{noProgram}
 use Rattle.program.specs.File.{FileAnswer, refused, program, byteAt, readFile}
+use Rattle.machine.specs.declared.Machine.{Machine}
 use Rattle.machine.specs.State.{fresh}
 use Rattle.step.specs.Step.{Step}
 use Rattle.step.specs.Outcome.{complete, asked}
@@ -14,14 +15,18 @@ pub use Rattle.replay.specs.declared.ReplayAnswer.{ReplayAnswer}
 pub use Rattle.replay.specs.declared.ReplayAnswer.the-variants.{Good, ProgramRefused, TraceRefused}
 pub use Rattle.replay.specs.declared.Replayed.{Replayed}
 
--- a refused trace gives the steps before the refusal and the machine after them, both answers no; the place is the record's first byte
+-- a refusal: both yes-or-no answers are no
+abbrev pub refusedWith : ReplayAnswer → Program → ℕ → Machine → Replayed
+refusedWith refusal p n x = record { answer = refusal; program = p; steps = n; machine = x; complete = false; holds = false }
+
+-- a refused trace gives the steps before the refusal and the machine after them; the place is the record's first byte
 abbrev pub answered : Program → Run → Replayed
 answered p (ended n x) = record { answer = Good; program = p; steps = n; machine = x; complete = complete p x; holds = asked p x }
-answered p (broken k n x) = record { answer = TraceRefused k n (6 * n); program = p; steps = n; machine = x; complete = false; holds = false }
+answered p (broken k n x) = refusedWith (TraceRefused k n (6 * n)) p n x
 
 -- a refused program file gives program, machine and counts of all 0
 abbrev pub onProgram : FileAnswer → List ℕ → Replayed
-onProgram (refused number place) t = record { answer = ProgramRefused number place; program = noProgram; steps = 0; machine = fresh; complete = false; holds = false }
+onProgram (refused number place) t = refusedWith (ProgramRefused number place) noProgram 0 fresh
 onProgram (program p) t = answered p (replayFrom p 0 fresh t)
 
 -- REPLAY of a trace file on a program file

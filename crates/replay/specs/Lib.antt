@@ -1,2 +1,3 @@
 pub mod Replay
 pub mod Answers
+pub mod InTurn

@@ -2,16 +2,13 @@
 ghost use mathlib.Core.Path.{_≡_};
 ghost use mathlib.Core.List.{List};
 ghost use Prim.Native.Nat.{ℕ, _+_, _*_, _≤_};
-ghost use lib.Dec.{T};
 ghost use lib.ListN.{length};
-ghost use Rattle.program.specs.WellFormed.{programTest};
 ghost use Rattle.program.specs.Program.{noProgram};
 ghost use Rattle.program.specs.File.{refused};
-ghost use Rattle.machine.specs.State.{fresh};
 ghost use Rattle.machine.specs.WellFormed.{Formed};
 ghost use Rattle.step.specs.Answers.{refusalOf};
 ghost use Rattle.replay.specs.Replay.{ended, broken, replayFrom};
-ghost use Rattle.replay.specs.Answers.{answered, onProgram, replay, stepAt};
+ghost use Rattle.replay.specs.Answers.{answered, onProgram, refusedWith, replay, stepAt};
 use machine::Machine;
 use machine::machines::fresh;
 use program::Program;
@@ -54,18 +51,25 @@ fn finished(p: Program, n: usize, x: Machine) -> Replayed
     }
 }
 
-fn stopped(p: Program, number: u8, n: usize, at: usize, x: Machine) -> Replayed
-    requires { ⌜ at ≡ 6 * n ⌝ }
-    ensures { λ r. ⌜ r ≡ answered p (broken number n x) ⌝ }
+// A refusal in either file: both yes-or-no answers are no.
+fn refused_with(answer: ReplayAnswer, p: Program, n: usize, x: Machine) -> Replayed
+    ensures { λ r. ⌜ r ≡ refusedWith answer p n x ⌝ }
 {
     Replayed {
-        answer: ReplayAnswer::TraceRefused(number, n, at),
+        answer: answer,
         program: p,
         steps: n,
         machine: x,
         complete: false,
         holds: false,
     }
+}
+
+fn stopped(p: Program, number: u8, n: usize, at: usize, x: Machine) -> Replayed
+    requires { ⌜ at ≡ 6 * n ⌝ }
+    ensures { λ r. ⌜ r ≡ answered p (broken number n x) ⌝ }
+{
+    refused_with(ReplayAnswer::TraceRefused(number, n, at), p, n, x)
 }
 
 // The step of the record at a place.
@@ -90,18 +94,17 @@ fn refusal(a: StepAnswer) -> u8
     }
 }
 
-// Records are taken one by one.
-fn replay_on(p: Program, trace: &[u8]) -> Replayed
-    requires { ⌜ T (programTest p) ⌝ }
-    ensures { λ r. ⌜ r ≡ answered p (replayFrom p 0 fresh (now (trace .entry))) ⌝ }
+// Whole records are taken one by one, the first on the machine `start`; then the trace may end inside another.
+fn replay_from(p: Program, start: Machine, trace: &[u8]) -> Replayed
+    requires { ⌜ Formed p start ⌝ }
+    ensures { λ r. ⌜ r ≡ answered p (replayFrom p 0 start (now (trace .entry))) ⌝ }
 {
-    let mut x = fresh();
+    let records = trace.len() / 6;
+    let mut x = start;
     let mut n = 0usize;
-    let mut at = 0usize;
-    while at < trace.len() {
-        if trace.len() - at < 6 {
-            return stopped(p, 1, n, at, x);
-        }
+    while n < records {
+        let at = 6 * n;
+        let next = n + 1;
         if trace[at] != 0x53 {
             return stopped(p, 2, n, at, x);
         }
@@ -114,24 +117,19 @@ fn replay_on(p: Program, trace: &[u8]) -> Replayed
             return stopped(p, refusal(answer), n, at, x);
         };
         x = r.machine;
-        n += 1;
-        at += 6;
+        n = next;
     }
-    finished(p, n, x)
+    if trace.len() % 6 != 0 {
+        return stopped(p, 1, records, 6 * records, x);
+    }
+    finished(p, records, x)
 }
 
 fn no_program(number: u8, place: usize, p: Program) -> Replayed
     requires { ⌜ p ≡ noProgram ⌝ }
     ensures { λ r. ⌜ ((t : List ℕ) → r ≡ onProgram (refused number place) t) ⌝ }
 {
-    Replayed {
-        answer: ReplayAnswer::ProgramRefused(number, place),
-        program: p,
-        steps: 0,
-        machine: fresh(),
-        complete: false,
-        holds: false,
-    }
+    refused_with(ReplayAnswer::ProgramRefused(number, place), p, 0, fresh())
 }
 
 pub fn replay(file: &[u8], trace: &[u8]) -> Replayed
@@ -140,7 +138,7 @@ pub fn replay(file: &[u8], trace: &[u8]) -> Replayed
     let r = read(file);
     let answer = r.answer;
     match answer {
-        ReadAnswer::Good => replay_on(r.program, trace),
+        ReadAnswer::Good => replay_from(r.program, fresh(), trace),
         ReadAnswer::Refused(number, place) => no_program(number, place, r.program),
     }
 }

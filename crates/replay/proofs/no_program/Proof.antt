@@ -5,7 +5,7 @@ use Rattle.replay.proofs.no_program.Statement.{statement}
 use Rattle.replay.proofs.no_program.Tie as tie
 
 returns : tie.Need-returns
-returns c t = rw (c .fresh .ensures, c .before .pre)
+returns c t = rw (c .refused-with .ensures, c .before .fresh .ensures, c .before .before .pre)
 
 pub no-program-spec : {M : Type 1} → statement M
-no-program-spec = tie.close (tie.spec (λ c κs. search needs) returns)
+no-program-spec = tie.close (tie.spec (λ c κs. search needs) (λ c κs. search needs) returns)

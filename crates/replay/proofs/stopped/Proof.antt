@@ -1,10 +1,11 @@
 -- `replay::stopped` meets its contract.
 -- Assumes nothing.
+use borrow.Author.Needs.{needs}
 use Rattle.replay.proofs.stopped.Statement.{statement}
 use Rattle.replay.proofs.stopped.Tie as tie
 
 returns : tie.Need-returns
-returns c = rw (c .pre)
+returns c = rw (c .refused-with .ensures, c .before .pre)
 
 pub stopped-spec : {M : Type 1} → statement M
-stopped-spec = tie.close (tie.spec returns)
+stopped-spec = tie.close (tie.spec (λ c κs. search needs) returns)
