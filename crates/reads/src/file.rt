@@ -1,8 +1,11 @@
 // Files that are built from parts, read, and their answers printed.
 ghost use Prim.Native.Nat.{_≤_, _<_};
 ghost use lib.ListN.{length};
-use libc::STDOUT_FILENO;
 use program::ReadAnswer;
+use rows::count;
+use rows::find;
+use rows::number;
+use rows::text;
 
 // ---- a file: the first `len` bytes
 pub struct File {
@@ -42,12 +45,10 @@ pub fn times(f: File, n: usize, s: &[u8]) -> File {
 }
 
 // ---- what is printed: a name, and the number and the place of the refusal, 0 0 for a good file
-fn answer(number: u64, place: u64) {
-    io::write_all(STDOUT_FILENO, b" ");
-    io::print_decimal(STDOUT_FILENO, number);
-    io::write_all(STDOUT_FILENO, b" ");
-    io::print_decimal(STDOUT_FILENO, place);
-    io::write_all(STDOUT_FILENO, b"\n");
+fn answer(refusal: u8, place: usize) {
+    number(b" ", refusal);
+    count(b" ", place);
+    text(b"\n");
 }
 
 pub fn read(file: &[u8]) {
@@ -55,7 +56,7 @@ pub fn read(file: &[u8]) {
     let a = r.answer;
     match a {
         ReadAnswer::Good => answer(0, 0),
-        ReadAnswer::Refused(number, place) => answer(number as u64, place as u64),
+        ReadAnswer::Refused(refusal, place) => answer(refusal, place),
     }
 }
 
@@ -66,32 +67,17 @@ fn front(bytes: &[u8], n: usize) {
 }
 
 pub fn show(name: &[u8], f: File) {
-    io::write_all(STDOUT_FILENO, name);
+    text(name);
     let b = f.bytes;
     front(&b, f.len);
 }
 
 pub fn numbered(name: &[u8], n: usize) {
-    io::write_all(STDOUT_FILENO, name);
-    io::write_all(STDOUT_FILENO, b"-");
-    io::print_decimal(STDOUT_FILENO, n as u64);
+    text(name);
+    count(b"-", n);
 }
 
 // ---- a list of files: each a name, a space, its bytes and a newline, which is none of its bytes
-fn find(s: &[u8], from: usize, b: u8) -> usize
-    requires { ⌜ from ≤ length (now s) ⌝ }
-    ensures { λ r. ⌜ (from ≤ r) × (r ≤ length (now (s .entry))) ⌝ }
-{
-    let mut i = from;
-    while i < s.len() {
-        if s[i] == b {
-            return i;
-        }
-        i += 1;
-    }
-    i
-}
-
 fn entry(before: File, list: &[u8], at: usize, end: usize, after: &[u8])
     requires { ⌜ (at ≤ end) × (end ≤ length (now list)) ⌝ }
 {

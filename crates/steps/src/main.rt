@@ -13,7 +13,6 @@
 //   g which value              the program's 0 version, 1 threads, 2 conditions, 3 last condition's value
 //   i thread count op          a thread's number of instructions, and the op of its last entry
 mod change;
-mod show;
 mod walk;
 
 use walk::rows;

@@ -6,9 +6,6 @@ use crate::change::equal_messages;
 use crate::change::one_message;
 use crate::change::program_field;
 use crate::change::thread_field;
-use crate::show::number;
-use crate::show::state;
-use crate::show::text;
 use certify::Certified;
 use machine::Forward;
 use machine::Machine;
@@ -18,6 +15,10 @@ use machine::Register;
 use machine::Thread;
 use machine::Views;
 use program::Program;
+use rows::find;
+use rows::number;
+use rows::show::state;
+use rows::text;
 use step::StepAnswer;
 use step::Stepped;
 use step::TraceStep;
@@ -159,20 +160,6 @@ fn act(name: &[u8], mut s: Setting, k: Command) -> Setting {
 }
 
 // ---- rows: a name, a space, commands and one space after each, then # and why the last answer is what it is
-fn find(s: &[u8], from: usize, b: u8) -> usize
-    requires { ⌜ from ≤ length (now s) ⌝ }
-    ensures { λ r. ⌜ (from ≤ r) × (r ≤ length (now (s .entry))) ⌝ }
-{
-    let mut i = from;
-    while i < s.len() {
-        if s[i] == b {
-            return i;
-        }
-        i += 1;
-    }
-    i
-}
-
 // A digit stands for its distance from '0': @ is 16, A is 17, / is 255.
 fn digit(b: u8) -> u8 {
     std::num::wrapping_sub_u8(b, b'0')

@@ -1,27 +1,21 @@
--- `steps::show::locations` meets its contract.
+-- `rows::show::registers` meets its contract.
 -- Assumes nothing.
 use Prim.Native.Nat.{_-_, _≤_}
 use borrow.Author.Needs.{needs}
-use Rattle.steps.proofs.show.locations.Statement.{statement}
-use Rattle.steps.proofs.show.locations.Tie as tie
+use Rattle.rows.proofs.show.registers.Statement.{statement}
+use Rattle.rows.proofs.show.registers.Tie as tie
 
 abbrev Inv-loop : tie.InvT-loop
-Inv-loop s l₀ t4 l = l ≤ 16
+Inv-loop s n₀ t4 n = n ≤ 8
 
 abbrev μ-loop : tie.MeasureT-loop
-μ-loop s l₀ t4 l = 16 - l
+μ-loop s n₀ t4 n = 8 - n
 
 loop-holds : tie.Need-loop-holds Inv-loop μ-loop
 loop-holds c = search needs
 
-coherence-at-requires : tie.Need-coherence-at-requires Inv-loop μ-loop
-coherence-at-requires c κs = search needs
-
-coherence-requires : tie.Need-coherence-requires Inv-loop μ-loop
-coherence-requires c κs = search needs
-
-forward-at-requires : tie.Need-forward-at-requires Inv-loop μ-loop
-forward-at-requires c κs = search needs
+register-at-requires : tie.Need-register-at-requires Inv-loop μ-loop
+register-at-requires c κs = search needs
 
 slice-aggregate-pair : tie.Need-slice-aggregate-pair Inv-loop μ-loop
 slice-aggregate-pair c = search needs
@@ -29,8 +23,8 @@ slice-aggregate-pair c = search needs
 pair-requires : tie.Need-pair-requires Inv-loop μ-loop
 pair-requires c κs = search needs
 
-add-l : tie.Need-add-l Inv-loop μ-loop
-add-l c = search needs
+add-n : tie.Need-add-n Inv-loop μ-loop
+add-n c = search needs
 
 loop-less : tie.Need-loop-less Inv-loop μ-loop
 loop-less c = search needs
@@ -41,19 +35,17 @@ loop-again c = search needs
 returns : tie.Need-returns Inv-loop μ-loop
 returns c = search needs
 
-pub locations-spec : {M : Type 1} → statement M
-locations-spec =
+pub registers-spec : {M : Type 1} → statement M
+registers-spec =
     tie.close
     (tie.spec
     Inv-loop
     μ-loop
     loop-holds
-    coherence-at-requires
-    coherence-requires
-    forward-at-requires
+    register-at-requires
     slice-aggregate-pair
     pair-requires
-    add-l
+    add-n
     loop-less
     loop-again
     returns)

@@ -1,9 +1,9 @@
--- `steps::show::memory` meets its contract.
+-- `rows::show::memory` meets its contract.
 -- Assumes nothing.
 use Prim.Native.Nat.{_-_, _≤_}
 use borrow.Author.Needs.{needs}
-use Rattle.steps.proofs.show.memory.Statement.{statement}
-use Rattle.steps.proofs.show.memory.Tie as tie
+use Rattle.rows.proofs.show.memory.Statement.{statement}
+use Rattle.rows.proofs.show.memory.Tie as tie
 
 abbrev Inv-loop : tie.InvT-loop
 Inv-loop m k₀ k = k ≤ 16

@@ -1,9 +1,9 @@
--- `steps::show::state` meets its contract.
+-- `rows::show::state` meets its contract.
 -- Assumes nothing.
 use Prim.Native.Nat.{_-_, _≤_}
 use borrow.Author.Needs.{needs}
-use Rattle.steps.proofs.show.state.Statement.{statement}
-use Rattle.steps.proofs.show.state.Tie as tie
+use Rattle.rows.proofs.show.state.Statement.{statement}
+use Rattle.rows.proofs.show.state.Tie as tie
 
 abbrev Inv-loop : tie.InvT-loop
 Inv-loop x i₀ t3 i = i ≤ 4

@@ -1,21 +1,27 @@
--- `steps::show::registers` meets its contract.
+-- `rows::show::locations` meets its contract.
 -- Assumes nothing.
 use Prim.Native.Nat.{_-_, _≤_}
 use borrow.Author.Needs.{needs}
-use Rattle.steps.proofs.show.registers.Statement.{statement}
-use Rattle.steps.proofs.show.registers.Tie as tie
+use Rattle.rows.proofs.show.locations.Statement.{statement}
+use Rattle.rows.proofs.show.locations.Tie as tie
 
 abbrev Inv-loop : tie.InvT-loop
-Inv-loop s n₀ t4 n = n ≤ 8
+Inv-loop s l₀ t4 l = l ≤ 16
 
 abbrev μ-loop : tie.MeasureT-loop
-μ-loop s n₀ t4 n = 8 - n
+μ-loop s l₀ t4 l = 16 - l
 
 loop-holds : tie.Need-loop-holds Inv-loop μ-loop
 loop-holds c = search needs
 
-register-at-requires : tie.Need-register-at-requires Inv-loop μ-loop
-register-at-requires c κs = search needs
+coherence-at-requires : tie.Need-coherence-at-requires Inv-loop μ-loop
+coherence-at-requires c κs = search needs
+
+coherence-requires : tie.Need-coherence-requires Inv-loop μ-loop
+coherence-requires c κs = search needs
+
+forward-at-requires : tie.Need-forward-at-requires Inv-loop μ-loop
+forward-at-requires c κs = search needs
 
 slice-aggregate-pair : tie.Need-slice-aggregate-pair Inv-loop μ-loop
 slice-aggregate-pair c = search needs
@@ -23,8 +29,8 @@ slice-aggregate-pair c = search needs
 pair-requires : tie.Need-pair-requires Inv-loop μ-loop
 pair-requires c κs = search needs
 
-add-n : tie.Need-add-n Inv-loop μ-loop
-add-n c = search needs
+add-l : tie.Need-add-l Inv-loop μ-loop
+add-l c = search needs
 
 loop-less : tie.Need-loop-less Inv-loop μ-loop
 loop-less c = search needs
@@ -35,17 +41,19 @@ loop-again c = search needs
 returns : tie.Need-returns Inv-loop μ-loop
 returns c = search needs
 
-pub registers-spec : {M : Type 1} → statement M
-registers-spec =
+pub locations-spec : {M : Type 1} → statement M
+locations-spec =
     tie.close
     (tie.spec
     Inv-loop
     μ-loop
     loop-holds
-    register-at-requires
+    coherence-at-requires
+    coherence-requires
+    forward-at-requires
     slice-aggregate-pair
     pair-requires
-    add-n
+    add-l
     loop-less
     loop-again
     returns)

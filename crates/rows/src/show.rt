@@ -1,20 +1,12 @@
 // A state printed on one line: the message count, the messages, and each thread after a bar, from its position on. Views, times and registers that are 0 are left out.
-use libc::STDOUT_FILENO;
+use crate::number;
+use crate::text;
 use machine::Machine;
 use machine::Memory;
 use machine::Message;
 use machine::Thread;
 use machine::Views;
 use machine::promises::has;
-
-pub fn text(s: &[u8]) {
-    io::write_all(STDOUT_FILENO, s);
-}
-
-pub fn number(label: &[u8], v: u8) {
-    text(label);
-    io::print_decimal(STDOUT_FILENO, v as u64);
-}
 
 // A message as (location value thread). An entry past the count is shown where it is not 0: 20 refuses it.
 fn message(used: bool, w: Message) {

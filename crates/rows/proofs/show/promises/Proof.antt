@@ -1,9 +1,9 @@
--- `steps::show::promises` meets its contract.
+-- `rows::show::promises` meets its contract.
 -- Assumes nothing.
 use Prim.Native.Nat.{_-_, _≤_}
 use borrow.Author.Needs.{needs}
-use Rattle.steps.proofs.show.promises.Statement.{statement}
-use Rattle.steps.proofs.show.promises.Tie as tie
+use Rattle.rows.proofs.show.promises.Statement.{statement}
+use Rattle.rows.proofs.show.promises.Tie as tie
 
 abbrev Inv-loop : tie.InvT-loop
 Inv-loop p t₀ t3 t = t ≤ 17

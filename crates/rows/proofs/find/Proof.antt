@@ -1,10 +1,10 @@
--- `reads::file::find` meets its contract.
+-- `rows::find` meets its contract.
 -- Assumes nothing.
 use Prim.Native.Nat.{_-_, _≤_}
 use lib.ListN.{length}
 use borrow.Author.Needs.{needs}
-use Rattle.reads.proofs.file.find.Statement.{statement}
-use Rattle.reads.proofs.file.find.Tie as tie
+use Rattle.rows.proofs.find.Statement.{statement}
+use Rattle.rows.proofs.find.Tie as tie
 
 abbrev Inv-loop : tie.InvT-loop
 Inv-loop s from b i₀ i = (from ≤ i) × (i ≤ length s)
