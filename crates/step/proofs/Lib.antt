@@ -6,3 +6,4 @@ pub mod Kept
 pub mod Stepping
 pub mod Ending
 pub mod Answered
+pub mod InTime

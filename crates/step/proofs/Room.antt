@@ -133,13 +133,13 @@ module _ (p : Program) {x : Machine} (r : Reached p x) (few : stores p ≤ 16) (
       (omega arith, certified-iff (codeOf p i) i (promisedMemory x i l v) (promisedThread x i l v) .1 (unlimited-is-certifying (omega arith) u))
 
 -- ---- refusal 24
-refused-later : (b : Bool) (n m : ℕ) (o : Outcome) → check b n o ≡ rejected m → (n ≡ m → ⊥) → T b × (o ≡ rejected m)
+pub refused-later : (b : Bool) (n m : ℕ) (o : Outcome) → check b n o ≡ rejected m → (n ≡ m → ⊥) → T b × (o ≡ rejected m)
 refused-later true n m o e d = (tt, e)
 refused-later false n m o e d = absurd (d (cc))
 
-not-settled : (p : Program) (x : Machine) (i : ℕ) (m : Memory) (s : Thread) → settle p x i m s ≡ rejected 24 → ⊥
+pub not-settled : (p : Program) (x : Machine) (i : ℕ) (m : Memory) (s : Thread) (n : ℕ) → (29 ≡ n → ⊥) → settle p x i m s ≡ rejected n → ⊥
 unfolding settle
-not-settled p x i m s e = let q = refused-later (certified (codeOf p i) i m s) 29 24 _ e (λ d. omega arith) .1 in let z : _≡_ {A = ℕ} 0 1 = cc in omega arith
+not-settled p x i m s n d e = let q = refused-later (certified (codeOf p i) i m s) 29 n _ e d .1 in let z : _≡_ {A = ℕ} 0 1 = cc in omega arith
 
 full : (b : Bool) (o : Outcome) → check b 24 o ≡ rejected 24 → (o ≡ rejected 24 → ⊥) → T b → ⊥
 full true o e n t = n e
@@ -152,7 +152,7 @@ refused-24 p x i l v e =
     let b = refused-later (ltb i (p .threads)) 21 24 _ (a .1) (λ d. omega arith) in
     let c = refused-later (eqb 0 0 && leb v 255) 22 24 _ (b .1) (λ d. omega arith) in
     let d = refused-later (leb l 15) 23 24 _ (c .1) (λ q. omega arith) in
-    let f = full (ltb (x .memory .count) 16) _ (d .1) (not-settled p x i (promisedMemory x i l v) (promisedThread x i l v)) in
+    let f = full (ltb (x .memory .count) 16) _ (d .1) (not-settled p x i (promisedMemory x i l v) (promisedThread x i l v) 24 (λ q. omega arith)) in
     (and-left (programTest p) (machineTest p x) (a .0), ltb→lt i (p .threads) (b .0), nltb→le (x .memory .count) 16 (not-T (ltb (x .memory .count) 16) f))
 
 -- ROOM: from the fresh machine 24 refuses no promise that could be certified, on any memory, with the limit of 16 messages or without
