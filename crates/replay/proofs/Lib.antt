@@ -3,3 +3,4 @@ pub mod Files
 pub mod Good
 pub mod Parts
 pub mod Bytes
+pub mod Never
