@@ -15,7 +15,7 @@ use Rattle.machine.specs.Promises.{First}
 use Rattle.machine.specs.Answers.{ruled, reach, storeMessage, ownStore}
 use Rattle.machine.specs.declared.RuleAnswer.the-variants.{Done, Refused}
 use Rattle.machine.specs.declared.Ruled.{Ruled}
-use Rattle.machine.proofs.Sets.{without-small, grown-small}
+use Rattle.machine.proofs.Sets.{has-none, without-small, grown-small}
 use Rattle.machine.proofs.Cases.{reach-within, ruled-done, ruled-refused}
 use Rattle.machine.proofs.Effects.{Effect, computed, loaded, stored, branched, fenced, effect, effect-time}
 use Rattle.certify.specs.Below.{Code, Operand, ComputeMode, LoadMode, StoreMode, FenceMode, Instr, Compute, Load, Store, Branch, Fence, Memory, Thread}
@@ -51,6 +51,13 @@ module _ (m : Memory) (s : Thread) where
     where
       at-zero : (t : ℕ) (s' : Thread) → Effect m t s (Fence k) s' → t ≡ 0
       at-zero t s' (fenced e) = e
+
+  -- without a promise there is no store
+  pub store-never : (k : StoreMode) (a d : Operand) → s .promises ≡ 0 → Only (Store k a d) m s 1 0
+  store-never k a d z = record { known = omega arith; before = λ t s' l e. never t s' (effect (Store k a d) m t s s' e); after = λ t s' l e. never t s' (effect (Store k a d) m t s s' e) }
+    where
+      never : (t : ℕ) (s' : Thread) → Effect m t s (Store k a d) s' → ⊥
+      never t s' (stored p u v) = has-none (s .promises) t z (p .out)
 
   -- a store fulfils an outstanding promise
   pub store-only : (k : StoreMode) (a d : Operand) (f : ℕ) → First (s .promises) f → Only (Store k a d) m s f (m .count)

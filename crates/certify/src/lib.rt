@@ -39,7 +39,6 @@ pub struct Window {
 
 // A load reads at any time; a store fulfils a promise; any other instruction executes at time 0.
 pub fn worth_trying(x: Instr, m: Memory, s: Thread) -> Window
-    requires { ⌜ (s .promises ≡ 0 → ⊥) ⌝ }
     ensures { λ r. ⌜ Only x m s (r .first) (r .last) ⌝ }
 {
     match x {
@@ -47,10 +46,15 @@ pub fn worth_trying(x: Instr, m: Memory, s: Thread) -> Window
             first: 0,
             last: m.count,
         },
-        Instr::Store(_, _, _) => Window {
-            first: first(s.promises),
-            last: m.count,
-        },
+        Instr::Store(_, _, _) => {
+            if is_empty(s.promises) {
+                return Window { first: 1, last: 0 };
+            }
+            Window {
+                first: first(s.promises),
+                last: m.count,
+            }
+        }
         Instr::Compute(_, _, _, _) => Window { first: 0, last: 0 },
         Instr::Branch(_, _, _) => Window { first: 0, last: 0 },
         Instr::Fence(_) => Window { first: 0, last: 0 },

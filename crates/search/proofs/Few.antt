@@ -28,8 +28,9 @@ use Rattle.step.specs.Order.{Less, range, forEach, execution, promise, everySte
 use Rattle.step.proofs.Backwards.{promisedMemory, promisedThread, Did, executed, promised, did}
 use Rattle.step.proofs.Bound.{well-formed}
 use Rattle.search.specs.Search.{stepping, sequencesOf, answerTo}
+use Rattle.search.specs.Visits.{keyPromise}
 use Rattle.search.proofs.Steps.{range-low, range-has, each-has, each-from, each-ascending, map-ascending, execution-tried, promise-tried}
-use Rattle.search.proofs.Keys.{insertKey, insert-from, insert-has, insert-keeps, insert-ascending, keyPromise, keys-ascending}
+use Rattle.search.proofs.Keys.{insertKey, insert-from, insert-has, insert-keeps, insert-ascending, keys-ascending}
 use Rattle.search.proofs.Machine.{taken-accepted, lawful}
 
 -- ---- the numbers of writes

@@ -12,7 +12,8 @@ use borrow.Author.Tests.{ltb-true, ltb-false, eqb-true, eqb-false}
 use Rattle.sequences.specs.Sequences.{Among, Ascending}
 use Rattle.sequences.proofs.Ordered.{among-unmap}
 use Rattle.step.specs.Step.{Step}
-use Rattle.step.specs.Order.{Less, promise}
+use Rattle.step.specs.Order.{Less}
+use Rattle.search.specs.Visits.{keyPromise}
 
 -- n in its place, unless it stands there already
 unfoldable pub insertKey : ℕ → List ℕ → List ℕ
@@ -68,9 +69,6 @@ insert-ascending n (k ∷ ks) s = go (ltb n k) (eqb n k) refl refl (insert-ascen
         ((λ b i. ⊎-elim (λ q. omega (arith, x)) (λ j. s .0 b j) (insert-from n b ks i)), rec)
 
 -- ---- promises by their number
-abbrev pub keyPromise : ℕ → ℕ → Step
-keyPromise i k = promise i (k / 256) (k % 256)
-
 key-less : (i j k : ℕ) → j < k → Less (keyPromise i j) (keyPromise i k)
 key-less i j k h = elim (decLt (j / 256) (k / 256)) [ yes l ↦ inr (refl, inr (refl, inl l)) | no l ↦ inr (refl, inr (refl, inr (omega arith, omega arith))) ]
 

@@ -107,7 +107,7 @@ thread-ascending i =
     ascending-append Less (executions i) (promises i) (executions-ascending i) (promises-ascending i)
     (λ x y j k. let e = execution-of i x j in let f = promise-of i y k in let e0 = e .0 in let e1 = e .1 in let f0 = f .0 in let f1 = f .1 in inr (e0 ∙ sym f0, inl (omega arith)))
 
-thread-of : (i : ℕ) (x : Step) → Among x (executions i ++ promises i) → x .thread ≡ i
+pub thread-of : (i : ℕ) (x : Step) → Among x (executions i ++ promises i) → x .thread ≡ i
 thread-of i x h = ⊎-elim (λ j. execution-of i x j .0) (λ j. promise-of i x j .0) (among-cases x (executions i) (promises i) h)
 
 -- ---- all steps

@@ -1,1 +1,3 @@
 pub mod Search
+pub mod Answers
+pub mod Visits

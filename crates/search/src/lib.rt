@@ -1,1 +1,88 @@
-// The answer of the search: definitions and theorems.
+// The search: every accepted sequence in order, with a budget. A sequence is visited before its extensions.
+mod tries;
+mod visits;
+
+ghost use mathlib.Core.Path.{_≡_};
+ghost use Prim.Native.Nat.{_≤_};
+ghost use lib.Dec.{T};
+ghost use lib.ListN.{length};
+ghost use Rattle.program.specs.WellFormed.{programTest};
+ghost use Rattle.search.specs.Answers.{refusal, Answers, Searched};
+use machine::machines::fresh;
+use program::Program;
+use program::ReadAnswer;
+use program::read;
+use visits::visit;
+
+// How far a visit has come: on, with so much of the budget left; at a wanted sequence of so many steps, with so much left; or
+// at a sequence with nothing left.
+pub enum Ran {
+    Going(u32),
+    Found(u32, usize),
+    Out,
+}
+
+// A refusal has its number and place.
+pub enum Verdict {
+    Allowed,
+    Forbidden,
+    NotFinished,
+    Refused(u8, usize),
+}
+
+// The count is the place of the sequence found, or the number of all, or the budget; the steps are those of the trace, 0 unless allowed.
+pub struct Answer {
+    pub verdict: Verdict,
+    pub count: u32,
+    pub steps: usize,
+}
+
+fn refusal(number: u8, place: usize) -> Answer
+    ensures { λ r. ⌜ r ≡ refusal number place ⌝ }
+{
+    Answer {
+        verdict: Verdict::Refused(number, place),
+        count: 0,
+        steps: 0,
+    }
+}
+
+// The search on a program that is well formed, with an area that has room for every trace.
+fn search_program(p: Program, budget: u32, area: &mut [u8]) -> Answer
+    requires { ⌜ T (programTest p) × (480 ≤ length (now area)) ⌝ }
+    ensures { λ r. ⌜ Answers p budget r (now (area .entry)) (now (area .exit)) ⌝ }
+{
+    match visit(p, fresh(), 0, budget, area) {
+        Ran::Going(b) => Answer {
+            verdict: Verdict::Forbidden,
+            count: budget - b,
+            steps: 0,
+        },
+        Ran::Found(b, n) => Answer {
+            verdict: Verdict::Allowed,
+            count: budget - b,
+            steps: n,
+        },
+        Ran::Out => Answer {
+            verdict: Verdict::NotFinished,
+            count: budget,
+            steps: 0,
+        },
+    }
+}
+
+pub fn search(file: &[u8], budget: u32, area: &mut [u8]) -> Answer
+    ensures { λ r. ⌜ Searched (now (file .entry)) budget (now (area .entry)) r (now (area .exit)) ⌝ }
+{
+    let f = read(file);
+    let answer = f.answer;
+    match answer {
+        ReadAnswer::Good => {
+            if area.len() < 480 {
+                return refusal(30, 0);
+            }
+            search_program(f.program, budget, area)
+        }
+        ReadAnswer::Refused(number, place) => refusal(number, place),
+    }
+}

@@ -1,15 +1,15 @@
 -- What code computes: a search through a list of sequences that counts its budget down, and its laws.
-use mathlib.Core.Path.{_≡_, refl, ap, _∙_}
+use mathlib.Core.Path.{_≡_, refl, ap, sym, _∙_}
 use mathlib.Core.Bool.{Bool, true, false}
 use mathlib.Core.Logic.{inl, inr}
-use mathlib.Core.List.{List, [], _∷_, _++_, map}
+use mathlib.Core.List.{List, [], _∷_, _++_, map, append-assoc}
 use mathlib.Core.Option.{none, some}
 use Prim.Native.Nat.{ℕ, zero, suc, _+_, _-_, _≤_, _<_}
 use native.Mathlib.Omega.{arith}
 use lib.ListN.{length}
 use borrow.Author.Tests.{lt-ltb, le-ltb}
 use Rattle.sequences.specs.Stepping.{Stepping}
-use Rattle.sequences.specs.Sequences.{Among, run, wanted, branches, upto}
+use Rattle.sequences.specs.Sequences.{Among, run, wanted, begun, branches, upto}
 use Rattle.sequences.specs.Lawful.{Lawful}
 use Rattle.sequences.specs.Answer.{Answer, allowed, forbidden, unfinished, visit, answer}
 use Rattle.sequences.proofs.Listed.{run-step, upto-sound, short, sequences-step}
@@ -114,6 +114,15 @@ module _ {A : Type 0} where
       go true h = omega arith
       go false h = omega arith
 
+-- the sequences that begin with steps of two lists are those of the first and then those of the second
+branches-append : (M : Stepping) (f : M .State → List (List (M .Step))) (s : M .State) (ks ls : List (M .Step))
+    → branches M f s (ks ++ ls) ≡ branches M f s ks ++ branches M f s ls
+unfolding branches
+branches-append M f s [] ls = refl
+branches-append M f s (k ∷ ks) ls =
+    ap (λ (l : List (List (M .Step))). begun M f k (M .next s k) ++ l) (branches-append M f s ks ls)
+    ∙ sym (append-assoc (begun M f k (M .next s k)) (branches M f s ks) (branches M f s ls))
+
 -- after a step by k the same is wanted of the remainder
 pub wanted-step : (M : Stepping) (s t : M .State) (k : M .Step) → M .next s k ≡ some t → (q : List (M .Step)) → wanted M s (k ∷ q) ≡ wanted M t q
 unfolding wanted
@@ -149,6 +158,13 @@ module _ (M : Stepping) (L : Lawful M) where
   pub ahead-end : (s : M .State) (b : ℕ) → ahead s [] b ≡ going b
   unfolding ahead scan branches
   ahead-end s b = refl
+
+  -- the steps of one list and then those of another
+  pub ahead-append : (s : M .State) (ks ls : List (M .Step)) (b : ℕ) → ahead s (ks ++ ls) b ≡ andThen (ahead s ks b) (λ c. ahead s ls c)
+  unfolding ahead
+  ahead-append s ks ls b =
+      ap (λ (l : List (List (M .Step))). scan (wanted M s) l b) (branches-append M (λ t. upto M (L .bound t) t) s ks ls)
+      ∙ scan-append (wanted M s) (branches M (λ t. upto M (L .bound t) t) s ks) (branches M (λ t. upto M (L .bound t) t) s ls) b
 
   -- a refused step costs nothing
   pub ahead-refused : (s : M .State) (k : M .Step) (ks : List (M .Step)) (b : ℕ) → M .next s k ≡ none → ahead s (k ∷ ks) b ≡ ahead s ks b

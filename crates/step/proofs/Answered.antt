@@ -2,14 +2,16 @@
 -- Assumes nothing.
 use mathlib.Core.Path.{_≡_, refl, sym, ap, _∙_}
 use mathlib.Core.Bool.{true}
-use Prim.Native.Nat.{ℕ}
+use Prim.Native.Nat.{ℕ, _<_}
 use native.Mathlib.Omega.{arith}
+use lib.ListN.{set}
+use borrow.Author.Tests.{lt-ltb}
 use Rattle.program.specs.WellFormed.{programTest}
 use Rattle.program.proofs.Tests.{and-both, is-true}
 use Rattle.machine.specs.WellFormed.{machineTest, Formed}
-use Rattle.step.specs.Below.{Program, Machine}
+use Rattle.step.specs.Below.{Code, Program, Memory, Thread, Machine}
 use Rattle.step.specs.Step.{Step, Outcome, rejected, accepted, ruleStep, step}
-use Rattle.step.specs.Answers.{Taken, Refused, Stepped, stepped}
+use Rattle.step.specs.Answers.{Taken, Refused, Stepped, stepped, Moved, outcome, Here, Moves}
 use Rattle.step.proofs.Stepping.{step-formed}
 use Rattle.step.proofs.Kept.{kept}
 
@@ -23,16 +25,28 @@ module _ (x : Machine) (r : Stepped) where
   stepped-refused n (accepted y) e h = let q : r .answer ≡ Taken = ap (λ (z : Stepped). z .answer) e in absurd (let z : _≡_ {A = ℕ} 0 1 = cc in omega arith)
 
 -- on a well-formed program and machine the rules decide
-module _ (p : Program) (x : Machine) (o : Formed p x) (k : Step) (r : Stepped) (e : r ≡ stepped x (ruleStep p x k)) where
-  by-rule : step p x k ≡ ruleStep p x k
-  by-rule = step-formed p x k true (sym (is-true _ (and-both (programTest p) (machineTest p x) (o .program-formed) (o .machine-formed)))) refl
+by-rule : (p : Program) (x : Machine) → Formed p x → (k : Step) → step p x k ≡ ruleStep p x k
+by-rule p x o k = step-formed p x k true (sym (is-true _ (and-both (programTest p) (machineTest p x) (o .program-formed) (o .machine-formed)))) refl
 
+module _ (p : Program) (x : Machine) (o : Formed p x) (k : Step) (r : Stepped) (e : r ≡ stepped x (ruleStep p x k)) where
   pub rule-taken : r .answer ≡ Taken → step p x k ≡ accepted (r .machine)
-  rule-taken h = by-rule ∙ stepped-taken x r (ruleStep p x k) e h
+  rule-taken h = by-rule p x o k ∙ stepped-taken x r (ruleStep p x k) e h
 
   pub rule-refused : (n : ℕ) → r .answer ≡ Refused n → step p x k ≡ rejected n
-  rule-refused n h = by-rule ∙ stepped-refused x r n (ruleStep p x k) e h
+  rule-refused n h = by-rule p x o k ∙ stepped-refused x r n (ruleStep p x k) e h
 
   -- the machine after a step that is taken is well formed again
   pub taken-formed : r .answer ≡ Taken → Formed p (r .machine)
   taken-formed h = record { program-formed = o .program-formed; machine-formed = kept p x (r .machine) k (rule-taken h) }
+
+-- the step of one thread, in a machine that has it
+module _ (p : Program) (x : Machine) (o : Formed p x) (k : Step) (h : k .thread < p .threads) {c : Code} {m : Memory} {s : Thread} (g : Here c m s p x (k .thread)) (r : Moved) (e : Moves c m s k r) where
+  by-thread : step p x k ≡ outcome x (k .thread) r
+  unfolding ruleStep
+  by-thread = by-rule p x o k ∙ rw (lt-ltb (k .thread) (p .threads) h) (e p x g)
+
+  pub thread-taken : r .answer ≡ Taken → (y : Machine) → y ≡ record { memory = r .memory; threads = set (x .threads) (k .thread) (r .thread) } → step p x k ≡ accepted y
+  thread-taken t y z = by-thread ∙ rw (t, z)
+
+  pub thread-refused : (n : ℕ) → r .answer ≡ Refused n → step p x k ≡ rejected n
+  thread-refused n t = by-thread ∙ rw t

@@ -1,6 +1,6 @@
 -- What the code of a step relies on, on plain values: what each test says of the definition.
 -- Assumes nothing.
-use mathlib.Core.Path.{_≡_, refl, sym, ap, _∙_, subst}
+use mathlib.Core.Path.{_≡_, refl, sym, ap, ap₂, _∙_}
 use mathlib.Core.Bool.{Bool, true, false, _&&_}
 use mathlib.Core.Option.{some}
 use Prim.Native.Nat.{ℕ, zero, suc, _+_, _-_, _^_, _≤_, _<_}
@@ -9,107 +9,122 @@ use lib.ListN.{set}
 use borrow.Author.Tests.{lt-ltb, le-ltb, le-leb, lt-leb, eq-eqb, ne-eqb}
 use Rattle.program.specs.Program.{instrAt, codeOf}
 use Rattle.program.specs.WellFormed.{programTest}
-use Rattle.machine.specs.State.{threadOf}
-use Rattle.machine.specs.Rules.{next, execute}
+use Rattle.machine.specs.State.{threadOf, append}
+use Rattle.machine.specs.Rules.{execute, addPromise}
 use Rattle.machine.specs.WellFormed.{machineTest, Formed}
 use Rattle.machine.specs.Answers.{ruled, reach}
-use Rattle.machine.specs.declared.RuleAnswer.the-variants.{Done, Refused}
+use Rattle.machine.specs.declared.RuleAnswer.the-variants as rule
 use Rattle.machine.specs.declared.Ruled.{Ruled}
 use Rattle.machine.proofs.Sets.{with-small}
 use Rattle.machine.proofs.Cases.{reach-within, ruled-done, ruled-refused}
 use Rattle.machine.proofs.Effects.{effect}
 use Rattle.certify.specs.Certify.{certify, certified}
 use Rattle.certify.specs.Answers.{Ready}
-use Rattle.certify.proofs.Asked.{program-facts, of-four, ready-here}
+use Rattle.certify.proofs.Asked.{of-four, ready-here}
 use Rattle.certify.proofs.Trying.{ready-after}
-use Rattle.step.specs.Below.{Code, Program, Instr, Memory, Thread, Machine}
+use Rattle.step.specs.Below.{Code, Program, Instr, Message, Memory, Thread, Machine}
 use Rattle.step.specs.Step.{Step, rejected, settle, settleRule, executeInstr, executeStep, promiseStep, kindStep, ruleStep, step}
-use Rattle.step.specs.Answers.{Taken, Stepped, stepped, Settling}
-use Rattle.step.proofs.Backwards.{moved, promisedMemory, promisedThread}
+use Rattle.step.specs.Answers.{Taken, Refused, Stepped, stepped, Moved, outcome, Here, Settles, Executes, Promises, Moves}
 
--- ---- what a well-formed program and machine give
-module _ (p : Program) (x : Machine) (o : Formed p x) (i : ℕ) (h : i < p .threads) where
+-- the answer with which nothing moves
+abbrev stays : ℕ → Memory → Thread → Moved
+stays n m s = record { answer = Refused n; memory = m; thread = s }
+
+-- ---- what a thread that is ready gives
+module _ (c : Code) (m : Memory) (s : Thread) (o : Ready c m s) where
   -- the next instruction is within the code, and the position stays a byte
-  pub position-small : (c : Code) → c ≡ codeOf p i → (n : ℕ) → n < c .count → n < 16
-  position-small c e n l = let q = ap (λ (d : Code). d .count) e in let s = program-facts p x o .codes i h .short in omega arith
+  pub position-small : (n : ℕ) → n < c .count → n < 16
+  position-small n l = let h = o .code-ok .short in omega arith
 
-  pub reach-small : (c : Code) → c ≡ codeOf p i → (y : Instr) (n : ℕ) → instrAt c n ≡ some y → n + reach y < 256
-  reach-small c e y n g =
-      let k = reach-within (codeOf p i) (program-facts p x o .codes i h) n y (subst (λ (d : Code). instrAt d n ≡ some y) e g) in
-      let s = program-facts p x o .codes i h .short in
-      omega arith
+  pub reach-small : (y : Instr) (n : ℕ) → instrAt c n ≡ some y → n + reach y < 256
+  reach-small y n g = let k = reach-within c (o .code-ok) n y g in let h = o .code-ok .short in omega arith
 
-  -- after an executed instruction the thread can be certified
-  pub settling-after : (s : Thread) → s ≡ threadOf x i → (y : Instr) (t : ℕ) (r : Ruled) → r ≡ ruled s (execute y (x .memory) t s) → r .answer ≡ Done → Settling p i (x .memory) (r .thread)
-  settling-after s q y t r e d =
-      record {
-        in-program = of-four p x o i h;
-        ready = ready-after (subst (Ready (codeOf p i) (x .memory)) (sym q) (ready-here p x o i h)) (effect y (x .memory) t s (r .thread) (ruled-done s (execute y (x .memory) t s) r e d));
-      }
+  -- after an executed instruction the thread is ready again
+  pub ready-executed : (y : Instr) (t : ℕ) (r : Ruled) → r ≡ ruled s (execute y m t s) → r .answer ≡ rule.Done → Ready c m (r .thread)
+  ready-executed y t r e d = ready-after o (effect y m t s (r .thread) (ruled-done s (execute y m t s) r e d))
 
   -- and after a promise
-  pub settling-promise : x .memory .count < 16 → (l v : ℕ) → Settling p i (promisedMemory x i l v) (promisedThread x i l v)
-  settling-promise few l v =
-      record {
-        in-program = of-four p x o i h;
-        ready = record { code-ok = program-facts p x o .codes i h; room = omega arith; promises-in = with-small ((threadOf x i) .promises) (x .memory .count) (ready-here p x o i h .promises-in) };
-      }
+  pub ready-promised : m .count < 16 → (w : Message) → Ready c (append m w) (addPromise (append m w) s)
+  ready-promised few w = record { code-ok = o .code-ok; room = omega arith; promises-in = with-small (s .promises) (m .count) (o .promises-in) }
 
   -- there is room for the promise in the set
-  pub with-room : (s : Thread) → s ≡ threadOf x i → x .memory .count < 16 → (0 < x .memory .count + 1) × ((x .memory .count + 1 ≤ 16) × (s .promises < 2 ^ (x .memory .count + 1 - 1)))
-  with-room s q few =
-      let n : x .memory .count + 1 - 1 ≡ x .memory .count = omega arith in
-      (omega arith, (omega arith, rw (n, q) (ready-here p x o i h .promises-in)))
+  pub with-room : m .count < 16 → (0 < m .count + 1) × ((m .count + 1 ≤ 16) × (s .promises < 2 ^ (m .count + 1 - 1)))
+  with-room few = let n : m .count + 1 - 1 ≡ m .count = omega arith in (omega arith, (omega arith, rw n (o .promises-in)))
 
 -- ---- certified or not
-module _ (p : Program) (x : Machine) (i : ℕ) (m : Memory) (s : Thread) (c : Code) (e : c ≡ codeOf p i) (b : Bool) (d : b ≡ certify (c .count) c i m s) where
-  the-test : b ≡ certified (codeOf p i) i m s
+module _ (c : Code) (i : ℕ) (m : Memory) (s : Thread) (b : Bool) (d : b ≡ certify (c .count) c i m s) where
+  the-test : (p : Program) → codeOf p i ≡ c → certified (codeOf p i) i m s ≡ b
   unfolding certified
-  the-test = d ∙ ap (λ (y : Code). certify (y .count) y i m s) e
+  the-test p e = ap (λ (y : Code). certify (y .count) y i m s) e ∙ sym d
 
-  pub settle-yes : b ≡ true → (y : Machine) → y ≡ moved x i m s → _≡_ {A = Stepped} (record { answer = Taken; machine = y }) (stepped x (settle p x i m s))
+  pub settle-yes : b ≡ true → Settles c i m s (record { answer = Taken; memory = m; thread = s })
   unfolding settle
-  settle-yes q y z = rw (sym (the-test) ∙ q, z)
+  settle-yes q p x e = rw (the-test p e ∙ q)
 
-  pub settle-no : b ≡ false → stepped x (rejected 29) ≡ stepped x (settle p x i m s)
+  pub settle-no : b ≡ false → (r : Moved) → r ≡ stays 29 m s → Settles c i m s r
   unfolding settle
-  settle-no q = rw (sym (the-test) ∙ q)
+  settle-no q r z p x e = rw (the-test p e ∙ q, z)
 
 -- ---- executing
-module _ (p : Program) (x : Machine) (i t : ℕ) (c : Code) (e : c ≡ codeOf p i) (s : Thread) (q : s ≡ threadOf x i) where
-  pub execute-end : c .count ≤ s .position → executeStep p x i t ≡ rejected 25
+module _ (c : Code) (i : ℕ) (m : Memory) (s : Thread) (t : ℕ) (a : Moved) where
+  pub execute-end : c .count ≤ s .position → a ≡ stays 25 m s → Executes c i m s t a
   unfolding executeStep instrAt
-  execute-end h =
-      let a = ap (λ (d : Code). d .count) e in
-      let b = ap (λ (d : Thread). d .position) q in
-      rw (le-ltb ((threadOf x i) .position) ((codeOf p i) .count) (omega arith))
+  execute-end l z p x h = rw (h .code, h .thread, le-ltb (s .position) (c .count) l, z)
 
-  module _ (y : Instr) (g : instrAt c (s .position) ≡ some y) (r : Ruled) (d : r ≡ ruled s (execute y (x .memory) t s)) where
-    the-instr : executeStep p x i t ≡ settleRule p x i (execute y (x .memory) t s)
+  module _ (y : Instr) (g : instrAt c (s .position) ≡ some y) (r : Ruled) (d : r ≡ ruled s (execute y m t s)) where
+    the-instr : (p : Program) (x : Machine) → Here c m s p x i → executeStep p x i t ≡ settleRule p x i (execute y m t s)
     unfolding executeStep
-    the-instr =
-        ap (executeInstr p x i t) (subst (λ (k : Thread). instrAt (codeOf p i) (k .position) ≡ some y) q (subst (λ (k : Code). instrAt k (s .position) ≡ some y) e g))
-        ∙ ap (λ (k : Thread). settleRule p x i (execute y (x .memory) t k)) (sym q)
+    the-instr p x h =
+        let is-next : instrAt (codeOf p i) ((threadOf x i) .position) ≡ some y = rw (h .code, h .thread) g in
+        ap (executeInstr p x i t) is-next ∙ ap₂ (λ (n : Memory) (u : Thread). settleRule p x i (execute y n t u)) (h .memory) (h .thread)
 
-    pub execute-done : r .answer ≡ Done → executeStep p x i t ≡ settle p x i (x .memory) (r .thread)
-    execute-done z = the-instr ∙ ap (settleRule p x i) (ruled-done s (execute y (x .memory) t s) r d z)
+    pub execute-done : r .answer ≡ rule.Done → Settles c i m (r .thread) a → Executes c i m s t a
+    execute-done z q p x h =
+        the-instr p x h ∙ ap (settleRule p x i) (ruled-done s (execute y m t s) r d z)
+        ∙ ap (λ (n : Memory). settle p x i n (r .thread)) (h .memory) ∙ q p x (h .code)
 
-    pub execute-refused : (n : ℕ) → r .answer ≡ Refused n → executeStep p x i t ≡ rejected n
-    execute-refused n z = the-instr ∙ ap (settleRule p x i) (ruled-refused s (execute y (x .memory) t s) r n d z)
+    pub execute-refused : (n : ℕ) → r .answer ≡ rule.Refused n → a ≡ stays n m s → Executes c i m s t a
+    execute-refused n z q p x h = the-instr p x h ∙ ap (settleRule p x i) (ruled-refused s (execute y m t s) r n d z) ∙ rw q
 
 -- ---- promising
-module _ (p : Program) (x : Machine) (i l v : ℕ) where
-  pub promise-23 : 15 < l → promiseStep p x i l v ≡ rejected 23
+module _ (c : Code) (i : ℕ) (m : Memory) (s : Thread) (l v : ℕ) (a : Moved) where
+  pub promise-23 : 15 < l → a ≡ stays 23 m s → Promises c i m s l v a
   unfolding promiseStep
-  promise-23 h = rw (lt-leb l 15 h)
+  promise-23 k z p x h = rw (lt-leb l 15 k, z)
 
-  pub promise-24 : l ≤ 15 → 16 ≤ x .memory .count → promiseStep p x i l v ≡ rejected 24
+  pub promise-24 : l ≤ 15 → 16 ≤ m .count → a ≡ stays 24 m s → Promises c i m s l v a
   unfolding promiseStep
-  promise-24 h k = rw (le-leb l 15 h, le-ltb (x .memory .count) 16 k)
+  promise-24 k j z p x h = rw (le-leb l 15 k, h .memory, le-ltb (m .count) 16 j, z)
 
-  pub promise-settles : l ≤ 15 → x .memory .count < 16 → promiseStep p x i l v ≡ settle p x i (promisedMemory x i l v) (promisedThread x i l v)
+  pub promise-settles : l ≤ 15 → m .count < 16 → (w : Message) → w ≡ record { location = l; value = v; thread = i }
+      → Settles c i (append m w) (addPromise (append m w) s) a → Promises c i m s l v a
   unfolding promiseStep
-  promise-settles h k = rw (le-leb l 15 h, lt-ltb (x .memory .count) 16 k)
+  promise-settles k j w e q p x h =
+      let few : x .memory .count < 16 = rw (h .memory) j in
+      rw (le-leb l 15 k, lt-ltb (x .memory .count) 16 few, ← e)
+      (ap₂ (λ (n : Memory) (u : Thread). settle p x i (append n w) (addPromise (append n w) u)) (h .memory) (h .thread) ∙ q p x (h .code))
+
+-- ---- a step of a thread, by its kind
+module _ (c : Code) (m : Memory) (s : Thread) (k : Step) (a : Moved) where
+  pub kind-execute-22 : k .kind ≡ 0 → (k .b ≡ 0 → ⊥) → a ≡ stays 22 m s → Moves c m s k a
+  unfolding kindStep
+  kind-execute-22 e n z p x h = ap (kindStep p x k) e ∙ rw (ne-eqb (k .b) 0 n, z)
+
+  pub kind-execute : k .kind ≡ 0 → k .b ≡ 0 → Executes c (k .thread) m s (k .a) a → Moves c m s k a
+  unfolding kindStep
+  kind-execute e n q p x h = ap (kindStep p x k) e ∙ rw (eq-eqb (k .b) 0 n) (q p x h)
+
+  pub kind-22 : (k .kind ≡ 0 → ⊥) → (k .kind ≡ 1 → ⊥) → a ≡ stays 22 m s → Moves c m s k a
+  unfolding kindStep
+  kind-22 e n z p x h = go (k .kind) e n ∙ rw z
+    where
+      go : (j : ℕ) → (j ≡ 0 → ⊥) → (j ≡ 1 → ⊥) → kindStep p x k j ≡ rejected 22
+      go zero a b = absurd (a refl)
+      go (suc j) a b = rw (ne-eqb j 0 (λ q. b (omega arith)))
+
+  pub kind-promise : k .kind ≡ 1 → k .b < 256 → Promises c (k .thread) m s (k .a) (k .b) a → Moves c m s k a
+  unfolding kindStep
+  kind-promise e n q p x h = ap (kindStep p x k) e ∙ rw (le-leb (k .b) 255 (omega arith)) (q p x h)
 
 -- ---- any step
 module _ (p : Program) (x : Machine) (k : Step) where
@@ -117,30 +132,21 @@ module _ (p : Program) (x : Machine) (k : Step) where
   unfolding ruleStep
   rule-21 h = rw (le-ltb (k .thread) (p .threads) h)
 
-  module _ (h : k .thread < p .threads) where
-    past-21 : ruleStep p x k ≡ kindStep p x k (k .kind)
+  module _ (h : k .thread < p .threads) (r : Moved) (c : Code) (s : Thread) (d : c ≡ codeOf p (k .thread)) (e : s ≡ threadOf x (k .thread)) (q : Moves c (x .memory) s k r) where
+    by-thread : ruleStep p x k ≡ outcome x (k .thread) r
     unfolding ruleStep
-    past-21 = rw (lt-ltb (k .thread) (p .threads) h)
+    by-thread = rw (lt-ltb (k .thread) (p .threads) h) (q p x (record { code = sym d; memory = refl; thread = sym e }))
 
-    pub rule-execute-22 : k .kind ≡ 0 → (k .b ≡ 0 → ⊥) → ruleStep p x k ≡ rejected 22
-    unfolding kindStep
-    rule-execute-22 e n = past-21 ∙ ap (kindStep p x k) e ∙ rw (ne-eqb (k .b) 0 n)
+    pub rule-taken : r .answer ≡ Taken → (y : Machine) → y ≡ record { memory = r .memory; threads = set (x .threads) (k .thread) (r .thread) }
+        → _≡_ {A = Stepped} (record { answer = Taken; machine = y }) (stepped x (ruleStep p x k))
+    rule-taken t y z = rw (by-thread, t, z)
 
-    pub rule-execute : k .kind ≡ 0 → k .b ≡ 0 → ruleStep p x k ≡ executeStep p x (k .thread) (k .a)
-    unfolding kindStep
-    rule-execute e n = past-21 ∙ ap (kindStep p x k) e ∙ rw (eq-eqb (k .b) 0 n)
+    pub rule-refused : (n : ℕ) → r .answer ≡ Refused n → stepped x (rejected n) ≡ stepped x (ruleStep p x k)
+    rule-refused n t = rw (by-thread, t)
 
-    pub rule-kind-22 : (k .kind ≡ 0 → ⊥) → (k .kind ≡ 1 → ⊥) → ruleStep p x k ≡ rejected 22
-    unfolding kindStep
-    rule-kind-22 e n = past-21 ∙ go (k .kind) e n
-      where
-        go : (j : ℕ) → (j ≡ 0 → ⊥) → (j ≡ 1 → ⊥) → kindStep p x k j ≡ rejected 22
-        go zero a b = absurd (a refl)
-        go (suc j) a b = rw (ne-eqb j 0 (λ q. b (omega arith)))
-
-    pub rule-promise : k .kind ≡ 1 → k .b < 256 → ruleStep p x k ≡ promiseStep p x (k .thread) (k .a) (k .b)
-    unfolding kindStep
-    rule-promise e n = past-21 ∙ ap (kindStep p x k) e ∙ rw (le-leb (k .b) 255 (omega arith))
+-- ---- the thread of a well-formed machine is ready
+pub thread-ready : (p : Program) (x : Machine) → Formed p x → (i : ℕ) → i < p .threads → (c : Code) (s : Thread) → c ≡ codeOf p i → s ≡ threadOf x i → Ready c (x .memory) s
+thread-ready p x o i h c s d e = rw (d, e) (ready-here p x o i h)
 
 -- ---- a step asked of any program and machine
 module _ (p : Program) (x : Machine) (k : Step) (f : Bool) (e : f ≡ (programTest p && machineTest p x)) where

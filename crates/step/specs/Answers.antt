@@ -1,13 +1,16 @@
--- The answer of a step for the code: taken, or the refusal number, beside the machine; and what the code knows before a step.
+-- The answer of a step for the code: taken, or the refusal number, beside the machine; and the answer of a step of one thread.
 -- Assumes nothing.
-use Prim.Native.Nat.{ℕ, _<_}
+use mathlib.Core.Path.{_≡_}
+use Prim.Native.Nat.{ℕ}
+use lib.ListN.{set}
 use Rattle.program.specs.Program.{codeOf}
-use Rattle.certify.specs.Answers.{Ready}
-use Rattle.step.specs.Below.{Program, Memory, Thread, Machine}
-use Rattle.step.specs.Step.{Outcome, rejected, accepted}
+use Rattle.machine.specs.State.{threadOf}
+use Rattle.step.specs.Below.{Code, Program, Memory, Thread, Machine}
+use Rattle.step.specs.Step.{Step, Outcome, rejected, accepted, settle, executeStep, promiseStep, kindStep}
 pub use Rattle.step.specs.declared.StepAnswer.{StepAnswer}
 pub use Rattle.step.specs.declared.StepAnswer.the-variants.{Taken, Refused}
 pub use Rattle.step.specs.declared.Stepped.{Stepped}
+pub use Rattle.step.specs.declared.Moved.{Moved}
 
 -- the answer of a step asked of the machine x: a refused step returns the machine as it came in
 abbrev pub stepped : Machine → Outcome → Stepped
@@ -19,7 +22,30 @@ abbrev pub refusalOf : StepAnswer → ℕ
 refusalOf Taken = 0
 refusalOf (Refused n) = n
 
--- thread i of the program can be certified on memory m
-pub record Settling (p : Program) (i : ℕ) (m : Memory) (s : Thread) : Type 0 where
-  pub in-program : i < 4
-  pub ready : Ready (codeOf p i) m s
+-- ---- a step of one thread
+-- what it says of a machine: thread i is replaced, or the number
+abbrev pub placed : Machine → ℕ → Memory → Thread → StepAnswer → Outcome
+placed x i m s Taken = accepted (record { memory = m; threads = set (x .threads) i s })
+placed x i m s (Refused n) = rejected n
+
+abbrev pub outcome : Machine → ℕ → Moved → Outcome
+outcome x i r = placed x i (r .memory) (r .thread) (r .answer)
+
+-- thread i of the machine has code c and state s, on memory m
+pub record Here (c : Code) (m : Memory) (s : Thread) (p : Program) (x : Machine) (i : ℕ) : Type 0 where
+  pub code : codeOf p i ≡ c
+  pub memory : x .memory ≡ m
+  pub thread : threadOf x i ≡ s
+
+-- r is what the definition says, in every machine with such a thread
+abbrev pub Settles : Code → ℕ → Memory → Thread → Moved → Type 0
+Settles c i m s r = (p : Program) (x : Machine) → codeOf p i ≡ c → settle p x i m s ≡ outcome x i r
+
+abbrev pub Executes : Code → ℕ → Memory → Thread → ℕ → Moved → Type 0
+Executes c i m s t r = (p : Program) (x : Machine) → Here c m s p x i → executeStep p x i t ≡ outcome x i r
+
+abbrev pub Promises : Code → ℕ → Memory → Thread → ℕ → ℕ → Moved → Type 0
+Promises c i m s l v r = (p : Program) (x : Machine) → Here c m s p x i → promiseStep p x i l v ≡ outcome x i r
+
+abbrev pub Moves : Code → Memory → Thread → Step → Moved → Type 0
+Moves c m s k r = (p : Program) (x : Machine) → Here c m s p x (k .thread) → kindStep p x k (k .kind) ≡ outcome x (k .thread) r

@@ -4,10 +4,10 @@ pub mod outcome;
 
 pub use checked::step;
 ghost use mathlib.Core.Path.{_≡_};
-ghost use Prim.Native.Nat.{_≤_, _<_};
-ghost use Rattle.step.specs.Step.{rejected, settle, executeStep, promiseStep, ruleStep, step};
 ghost use Rattle.machine.specs.WellFormed.{Formed};
-ghost use Rattle.step.specs.Answers.{stepped, Settling};
+ghost use Rattle.certify.specs.Answers.{Ready};
+ghost use Rattle.step.specs.Step.{rejected, ruleStep, step};
+ghost use Rattle.step.specs.Answers.{Refused, stepped, Settles, Executes, Promises, Moves};
 use certify::certify_within;
 use machine::Machine;
 use machine::Memory;
@@ -16,6 +16,7 @@ use machine::RuleAnswer;
 use machine::Thread;
 use machine::promises::with;
 use machine::rules::execute;
+use program::Code;
 use program::Program;
 
 // As a trace has it: kind 0 executes at time a, b = 0; kind 1 promises location a, value b.
@@ -46,62 +47,92 @@ pub fn refused(n: u8, x: Machine) -> Stepped
     }
 }
 
-// Thread i becomes s on memory m, if it is certified there.
-fn settle(p: Program, x: Machine, i: u8, m: Memory, s: Thread) -> Stepped
-    requires { ⌜ Settling p i m s ⌝ }
-    ensures { λ r. ⌜ r ≡ stepped x (settle p x i m s) ⌝ }
+// The answer of a step of one thread; taken, the memory and the thread after it.
+pub struct Moved {
+    pub answer: StepAnswer,
+    pub memory: Memory,
+    pub thread: Thread,
+}
+
+fn stays(n: u8, m: Memory, s: Thread) -> Moved
+    ensures { λ r. ⌜ r ≡ record { answer = Refused n; memory = m; thread = s } ⌝ }
 {
-    let c = p.code_of(i);
+    Moved {
+        answer: StepAnswer::Refused(n),
+        memory: m,
+        thread: s,
+    }
+}
+
+// Thread i becomes s on memory m, if it is certified there.
+fn settle(c: Code, i: u8, m: Memory, s: Thread) -> Moved
+    requires { ⌜ Ready c m s ⌝ }
+    ensures { λ r. ⌜ Settles c i m s r ⌝ }
+{
     if certify_within(c.count, c, i, m, s) {
-        Stepped {
+        Moved {
             answer: StepAnswer::Taken,
-            machine: x.moved(i, m, s),
+            memory: m,
+            thread: s,
         }
     } else {
-        refused(29, x)
+        stays(29, m, s)
     }
 }
 
 // Thread i executes its next instruction at time t.
-fn execute_step(p: Program, x: Machine, i: u8, t: u8) -> Stepped
-    requires { ⌜ Formed p x × (i < p .threads) ⌝ }
-    ensures { λ r. ⌜ r ≡ stepped x (executeStep p x i t) ⌝ }
+fn execute_step(c: Code, i: u8, m: Memory, s: Thread, t: u8) -> Moved
+    requires { ⌜ Ready c m s ⌝ }
+    ensures { λ r. ⌜ Executes c i m s t r ⌝ }
 {
-    let c = p.code_of(i);
-    let s = x.thread_of(i);
     let n = s.position;
     if c.count <= n {
-        return refused(25, x);
+        return stays(25, m, s);
     }
-    let m = x.memory;
     let r = execute(c.instr_at(n), m, t, s);
     let answer = r.answer;
     match answer {
-        RuleAnswer::Done => settle(p, x, i, m, r.thread),
-        RuleAnswer::Refused(k) => refused(k, x),
+        RuleAnswer::Done => settle(c, i, m, r.thread),
+        RuleAnswer::Refused(k) => stays(k, m, s),
     }
 }
 
 // Thread i promises location l and value v.
-fn promise_step(p: Program, x: Machine, i: u8, l: u8, v: u8) -> Stepped
-    requires { ⌜ Formed p x × (i < p .threads) ⌝ }
-    ensures { λ r. ⌜ r ≡ stepped x (promiseStep p x i l v) ⌝ }
+fn promise_step(c: Code, i: u8, m: Memory, s: Thread, l: u8, v: u8) -> Moved
+    requires { ⌜ Ready c m s ⌝ }
+    ensures { λ r. ⌜ Promises c i m s l v r ⌝ }
 {
     if 15 < l {
-        return refused(23, x);
+        return stays(23, m, s);
     }
-    let m = x.memory;
     if 16 <= m.count {
-        return refused(24, x);
+        return stays(24, m, s);
     }
-    let s = x.thread_of(i);
     let q = s.with_promises(with(s.promises, m.count + 1));
     let w = Message {
         location: l,
         value: v,
         thread: i,
     };
-    settle(p, x, i, m.append(w), q)
+    let after = m.append(w);
+    settle(c, i, after, q)
+}
+
+// The step of a thread that has code c and state s, on memory m.
+pub fn thread_step(c: Code, m: Memory, s: Thread, k: TraceStep) -> Moved
+    requires { ⌜ Ready c m s ⌝ }
+    ensures { λ r. ⌜ Moves c m s k r ⌝ }
+{
+    if k.kind == 0 {
+        if k.b != 0 {
+            return stays(22, m, s);
+        }
+        return execute_step(c, k.thread, m, s, k.a);
+    }
+    if k.kind != 1 {
+        return stays(22, m, s);
+    }
+    promise_step(c, k.thread, m, s, k.a, k.b)
 }
 
 // The step on a program and a machine that are well formed.
@@ -113,14 +144,13 @@ pub fn rule_step(p: Program, x: Machine, k: TraceStep) -> Stepped
     if p.threads <= i {
         return refused(21, x);
     }
-    if k.kind == 0 {
-        if k.b != 0 {
-            return refused(22, x);
-        }
-        return execute_step(p, x, i, k.a);
+    let r = thread_step(p.code_of(i), x.memory, x.thread_of(i), k);
+    let answer = r.answer;
+    match answer {
+        StepAnswer::Taken => Stepped {
+            answer: StepAnswer::Taken,
+            machine: x.moved(i, r.memory, r.thread),
+        },
+        StepAnswer::Refused(n) => refused(n, x),
     }
-    if k.kind != 1 {
-        return refused(22, x);
-    }
-    promise_step(p, x, i, k.a, k.b)
 }

@@ -98,7 +98,7 @@ certify-within-instr-at-requires t c κs = let h = c .before .before .before .be
 
 -- src/lib.rt:64:9
 certify-within-worth-trying-requires : (t : ℕ) → certify-within-lts.Need-worth-trying-requires (certify-within-claims t) (certify-within-at t) certify-within.Post
-certify-within-worth-trying-requires t c κs = eqb-false _ _ (sym (c .before .before .before .before .before .is-empty .ensures) ∙ c .before .before .before .before .if1 .left)
+certify-within-worth-trying-requires t c κs = search needs
 
 -- src/lib.rt:65:18
 certify-within-sub-try-times : (t : ℕ) → certify-within-lts.Need-sub-try-times (certify-within-claims t) (certify-within-at t) certify-within.Post

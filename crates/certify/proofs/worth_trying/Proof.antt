@@ -1,56 +1,67 @@
 -- `certify::worth_trying` meets its contract: one law for each instruction.
 -- Assumes nothing.
-use Rattle.certify.proofs.Trying.{load-only, store-only, compute-only, branch-only, fence-only}
+use Rattle.certify.proofs.Trying.{load-only, store-never, store-only, compute-only, branch-only, fence-only}
+use borrow.Author.Tests.{eqb-true, eqb-false}
+use mathlib.Core.Path.{sym, _∙_}
 use borrow.Author.Needs.{needs}
 use Rattle.certify.proofs.worth_trying.Statement.{statement}
 use Rattle.certify.proofs.worth_trying.Tie as tie
 use Rattle.certify.proofs.worth_trying.Reads as reads
 use Rattle.certify.proofs.worth_trying.Lts as lts
 use Rattle.machine.proofs.promises.first.Reads as first-reads
+use Rattle.machine.proofs.promises.is_empty.Reads as is-empty-reads
 
--- src/lib.rt:34:36
+-- src/lib.rt:45:36
 enum-told : tie.Need-enum-told
 enum-told c = search needs
 
--- src/lib.rt:39:20
+-- src/lib.rt:50:16
 enum-told-2 : tie.Need-enum-told-2
 enum-told-2 c = search needs
 
--- src/lib.rt:39:20
-first-requires : tie.Need-first-requires
-first-requires c κs = search needs
+-- src/lib.rt:50:16
+is-empty-requires : tie.Need-is-empty-requires
+is-empty-requires c κs = search needs
 
--- src/lib.rt:42:39
+-- src/lib.rt:51:17
+returns : tie.Need-returns
+returns c = rw (c .before .before .enum-told2 .given .1) (store-never _ _ _ _ _ (eqb-true _ _ (sym (c .before .is-empty .ensures) ∙ c .if1 .taken)))
+
+-- src/lib.rt:54:24
+first-requires : tie.Need-first-requires
+first-requires c κs = eqb-false _ _ (sym (c .before .is-empty .ensures) ∙ c .if1 .left)
+
+-- src/lib.rt:58:39
 enum-told-3 : tie.Need-enum-told-3
 enum-told-3 c = search needs
 
--- src/lib.rt:43:35
+-- src/lib.rt:59:35
 enum-told-4 : tie.Need-enum-told-4
 enum-told-4 c = search needs
 
--- src/lib.rt:44:28
+-- src/lib.rt:60:28
 enum-told-5 : tie.Need-enum-told-5
 enum-told-5 c = search needs
 
--- src/lib.rt:29:1
-returns : tie.Need-returns
-returns c = rw (c .enum-told .given .1) (load-only _ _ _ _ _ _)
-
--- src/lib.rt:29:1
+-- src/lib.rt:41:1
 returns-2 : tie.Need-returns-2
-returns-2 c = rw (c .before .enum-told2 .given .1) (store-only _ _ _ _ _ _ (c .first .ensures))
+returns-2 c = rw (c .enum-told .given .1) (load-only _ _ _ _ _ _)
 
--- src/lib.rt:29:1
+-- src/lib.rt:41:1
 returns-3 : tie.Need-returns-3
-returns-3 c = rw (c .enum-told3 .given .1) (compute-only _ _ _ _ _ _)
+returns-3 c = rw (c .before .before .before .enum-told2 .given .1) (store-only _ _ _ _ _ _ (c .first .ensures))
 
--- src/lib.rt:29:1
+-- src/lib.rt:41:1
 returns-4 : tie.Need-returns-4
-returns-4 c = rw (c .enum-told4 .given .1) (branch-only _ _ _ _ _)
+returns-4 c = rw (c .enum-told3 .given .1) (compute-only _ _ _ _ _ _)
 
--- src/lib.rt:29:1
+-- src/lib.rt:41:1
 returns-5 : tie.Need-returns-5
-returns-5 c = rw (c .enum-told5 .given .1) (fence-only _ _ _)
+returns-5 c = rw (c .enum-told4 .given .1) (branch-only _ _ _ _ _)
+
+-- src/lib.rt:41:1
+returns-6 : tie.Need-returns-6
+returns-6 c = rw (c .enum-told5 .given .1) (fence-only _ _ _)
 
 pub worth-trying-spec : {M : Type 1} → statement M
 worth-trying-spec =
@@ -58,12 +69,14 @@ worth-trying-spec =
     (tie.spec
     enum-told
     enum-told-2
+    is-empty-requires
+    returns
     first-requires
     enum-told-3
     enum-told-4
     enum-told-5
-    returns
     returns-2
     returns-3
     returns-4
-    returns-5)
+    returns-5
+    returns-6)

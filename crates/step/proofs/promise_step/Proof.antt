@@ -1,63 +1,66 @@
 -- `step::promise_step` meets its contract.
 -- Assumes nothing.
-use mathlib.Core.Path.{sym, ap, _∙_}
-use Rattle.step.specs.Answers.{stepped}
-use Rattle.certify.proofs.Asked.{of-four}
-use Rattle.step.proofs.Stepping.{with-room, settling-promise, promise-23, promise-24, promise-settles}
+use Rattle.step.proofs.Stepping.{with-room, ready-promised, promise-23, promise-24, promise-settles}
+use mathlib.Core.Path.{refl}
 use borrow.Author.Needs.{needs}
 use Rattle.step.proofs.promise_step.Statement.{statement}
 use Rattle.step.proofs.promise_step.Tie as tie
 use Rattle.step.proofs.promise_step.Reads as reads
 use Rattle.step.proofs.promise_step.Lts as lts
-use Rattle.machine.proofs.Machine.thread_of.Reads as thread-of-reads
 use Rattle.machine.proofs.Memory.append.Reads as append-reads
 use Rattle.machine.proofs.Thread.with_promises.Reads as with-promises-reads
 use Rattle.machine.proofs.promises.with.Reads as with-reads
-use Rattle.step.proofs.refused.Reads as refused-reads
 use Rattle.step.proofs.settle.Reads as settle-reads
+use Rattle.step.proofs.stays.Reads as stays-reads
 
-refused-requires : tie.Need-refused-requires
-refused-requires c κs = search needs
+-- src/lib.rt:106:9
+stays-requires : tie.Need-stays-requires
+stays-requires c κs = search needs
 
+-- src/lib.rt:106:9
 returns : tie.Need-returns
-returns c = c .refused .ensures ∙ ap (stepped _) (sym (promise-23 _ _ _ _ _ (c .before .if1 .taken)))
+returns c = promise-23 _ _ _ _ _ _ _ (c .before .if1 .taken) (c .stays .ensures)
 
-refused-requires-2 : tie.Need-refused-requires-2
-refused-requires-2 c κs = search needs
+-- src/lib.rt:109:9
+stays-requires-2 : tie.Need-stays-requires-2
+stays-requires-2 c κs = search needs
 
+-- src/lib.rt:109:9
 returns-2 : tie.Need-returns-2
-returns-2 c = c .refused2 .ensures ∙ ap (stepped _) (sym (promise-24 _ _ _ _ _ (c .before .before .before .before .if1 .left) (c .before .if2 .taken)))
+returns-2 c = promise-24 _ _ _ _ _ _ _ (c .before .before .before .if1 .left) (c .before .if2 .taken) (c .stays2 .ensures)
 
-thread-of-requires : tie.Need-thread-of-requires
-thread-of-requires c κs = of-four _ _ (c .before .before .before .before .pre .0) _ (c .before .before .before .before .pre .1)
-
+-- src/lib.rt:111:46
 add-with : tie.Need-add-with
 add-with c = search needs
 
+-- src/lib.rt:111:29
 with-requires : tie.Need-with-requires
-with-requires c κs = with-room _ _ (c .before .before .before .before .before .before .pre .0) _ (c .before .before .before .before .before .before .pre .1) _ (c .before .thread-of .ensures) (c .before .before .if2 .left)
+with-requires c κs = with-room _ _ _ (c .before .before .before .before .pre) (c .before .if2 .left)
 
+-- src/lib.rt:111:9
 with-promises-requires : tie.Need-with-promises-requires
 with-promises-requires c κs = search needs
 
+-- src/lib.rt:117:18
 append-requires : tie.Need-append-requires
 append-requires c κs = search needs
 
+-- src/lib.rt:117:5
 settle-requires : tie.Need-settle-requires
-settle-requires c κs = rw (c .append .ensures, c .before .with-promises .ensures, c .before .before .with .ensures, c .before .before .before .before .thread-of .ensures) (settling-promise _ _ (c .before .before .before .before .before .before .before .before .before .pre .0) _ (c .before .before .before .before .before .before .before .before .before .pre .1) (c .before .before .before .before .before .if2 .left) _ _)
+settle-requires c κs = rw (c .append .ensures, c .before .with-promises .ensures, c .before .before .with .ensures) (ready-promised _ _ _ (c .before .before .before .before .before .before .before .pre) (c .before .before .before .before .if2 .left) _)
 
+-- src/lib.rt:101:1
 returns-3 : tie.Need-returns-3
-returns-3 c = c .settle .ensures ∙ rw (c .before .append .ensures, c .before .before .with-promises .ensures, c .before .before .before .with .ensures, c .before .before .before .before .before .thread-of .ensures) (ap (stepped _) (sym (promise-settles _ _ _ _ _ (c .before .before .before .before .before .before .before .before .before .if1 .left) (c .before .before .before .before .before .before .if2 .left))))
+returns-3 c = promise-settles _ _ _ _ _ _ (c .settle .result) (c .before .before .before .before .before .before .before .if1 .left) (c .before .before .before .before .before .if2 .left) _ refl (rw (c .before .append .ensures, c .before .before .with-promises .ensures, c .before .before .before .with .ensures) at (c .settle .ensures))
 
 pub promise-step-spec : {M : Type 1} → statement M
 promise-step-spec =
     tie.close
     (tie.spec
-    refused-requires
+    stays-requires
     returns
-    refused-requires-2
+    stays-requires-2
     returns-2
-    thread-of-requires
     add-with
     with-requires
     with-promises-requires

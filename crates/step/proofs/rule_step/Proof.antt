@@ -1,47 +1,63 @@
 -- `step::rule_step` meets its contract.
 -- Assumes nothing.
-use mathlib.Core.Path.{sym, ap, _∙_}
-use native.Mathlib.Omega.{arith}
+use Rattle.step.proofs.Stepping.{rule-21, rule-taken, rule-refused, thread-ready}
+use Rattle.certify.proofs.Asked.{of-four}
 use Rattle.step.specs.Answers.{stepped}
-use Rattle.step.proofs.Stepping.{rule-21, rule-execute-22, rule-execute, rule-kind-22, rule-promise}
+use mathlib.Core.Path.{sym, ap, _∙_}
 use borrow.Author.Needs.{needs}
 use Rattle.step.proofs.rule_step.Statement.{statement}
 use Rattle.step.proofs.rule_step.Tie as tie
 use Rattle.step.proofs.rule_step.Reads as reads
 use Rattle.step.proofs.rule_step.Lts as lts
-use Rattle.step.proofs.execute_step.Reads as execute-step-reads
-use Rattle.step.proofs.promise_step.Reads as promise-step-reads
+use Rattle.machine.proofs.Machine.moved.Reads as moved-reads
+use Rattle.machine.proofs.Machine.thread_of.Reads as thread-of-reads
+use Rattle.program.proofs.Program.code_of.Reads as code-of-reads
 use Rattle.step.proofs.refused.Reads as refused-reads
+use Rattle.step.proofs.thread_step.Reads as thread-step-reads
 
+-- src/lib.rt:144:9
 refused-requires : tie.Need-refused-requires
 refused-requires c κs = search needs
 
+-- src/lib.rt:144:9
 returns : tie.Need-returns
 returns c = c .refused .ensures ∙ ap (stepped _) (sym (rule-21 _ _ _ (c .before .if1 .taken)))
 
+-- src/lib.rt:146:25
+code-of-requires : tie.Need-code-of-requires
+code-of-requires c κs = of-four _ _ (c .before .before .pre) _ (c .if1 .left)
+
+-- src/lib.rt:146:49
+thread-of-requires : tie.Need-thread-of-requires
+thread-of-requires c κs = of-four _ _ (c .before .before .before .pre) _ (c .before .if1 .left)
+
+-- src/lib.rt:146:9
+thread-step-requires : tie.Need-thread-step-requires
+thread-step-requires c κs = thread-ready _ _ (c .before .before .before .before .pre) _ (c .before .before .if1 .left) _ _ (c .before .code-of .ensures) (c .thread-of .ensures)
+
+-- src/lib.rt:150:21
+enum-told : tie.Need-enum-told
+enum-told c = search needs
+
+-- src/lib.rt:151:22
+moved-requires : tie.Need-moved-requires
+moved-requires c κs = of-four _ _ (c .before .before .before .before .before .before .before .pre) _ (c .before .before .before .before .before .if1 .left)
+
+-- src/lib.rt:153:29
+enum-known-answer : tie.Need-enum-known-answer
+enum-known-answer c = search needs
+
+-- src/lib.rt:153:35
 refused-requires-2 : tie.Need-refused-requires-2
 refused-requires-2 c κs = search needs
 
+-- src/lib.rt:138:1
 returns-2 : tie.Need-returns-2
-returns-2 c = c .refused2 .ensures ∙ ap (stepped _) (sym (rule-execute-22 _ _ _ (c .before .before .before .before .before .if1 .left) (c .before .before .before .if2 .taken) (c .before .if3 .taken)))
+returns-2 c = rule-taken _ _ _ (c .before .before .before .before .before .before .if1 .left) _ _ _ (c .before .before .before .before .before .code-of .ensures) (c .before .before .before .before .thread-of .ensures) (c .before .before .before .thread-step .ensures) (c .before .enum-told .given .1) _ (c .moved .ensures)
 
-execute-step-requires : tie.Need-execute-step-requires
-execute-step-requires c κs = search needs
-
+-- src/lib.rt:138:1
 returns-3 : tie.Need-returns-3
-returns-3 c = c .execute-step .ensures ∙ ap (stepped _) (sym (rule-execute _ _ _ (c .before .before .before .before .before .if1 .left) (c .before .before .before .if2 .taken) (c .before .if3 .left)))
-
-refused-requires-3 : tie.Need-refused-requires-3
-refused-requires-3 c κs = search needs
-
-returns-4 : tie.Need-returns-4
-returns-4 c = c .refused3 .ensures ∙ ap (stepped _) (sym (rule-kind-22 _ _ _ (c .before .before .before .before .before .if1 .left) (c .before .before .before .if2 .left) (c .before .if4 .taken)))
-
-promise-step-requires : tie.Need-promise-step-requires
-promise-step-requires c κs = search needs
-
-returns-5 : tie.Need-returns-5
-returns-5 c = c .promise-step .ensures ∙ ap (stepped _) (sym (rule-promise _ _ _ (c .before .before .before .before .before .if1 .left) (c .before .if4 .left) (omega (arith, c .before .before .struct-known4 .given))))
+returns-3 c = c .refused2 .ensures ∙ rule-refused _ _ _ (c .before .before .before .before .before .before .before .if1 .left) _ _ _ (c .before .before .before .before .before .before .code-of .ensures) (c .before .before .before .before .before .thread-of .ensures) (c .before .before .before .before .thread-step .ensures) _ (c .before .before .answer .given .1)
 
 pub rule-step-spec : {M : Type 1} → statement M
 rule-step-spec =
@@ -49,11 +65,12 @@ rule-step-spec =
     (tie.spec
     refused-requires
     returns
+    code-of-requires
+    thread-of-requires
+    thread-step-requires
+    enum-told
+    moved-requires
+    enum-known-answer
     refused-requires-2
     returns-2
-    execute-step-requires
-    returns-3
-    refused-requires-3
-    returns-4
-    promise-step-requires
-    returns-5)
+    returns-3)

@@ -1,0 +1,55 @@
+-- The trace of an allowed answer replays: it is good and complete, and the question holds.
+-- Assumes nothing.
+use mathlib.Core.Path.{_≡_, refl, subst, _∙_}
+use mathlib.Core.Bool.{true, false}
+use mathlib.Core.List.{List, [], _∷_}
+use mathlib.Core.Option.{Option, none, some}
+use Prim.Native.Nat.{ℕ}
+use native.Mathlib.Omega.{arith}
+use lib.ListN.{length}
+use Rattle.program.specs.declared.Program.{Program}
+use Rattle.program.specs.File.{program, readFile}
+use Rattle.machine.specs.declared.Machine.{Machine}
+use Rattle.machine.specs.State.{fresh}
+use Rattle.sequences.specs.Sequences.{run, wanted}
+use Rattle.sequences.specs.Answer.{allowed}
+use Rattle.sequences.proofs.Listed.{first-step}
+use Rattle.step.specs.Step.{Step, step}
+use Rattle.step.specs.Outcome.{asked}
+use Rattle.step.specs.Trace.{traceBytes}
+use Rattle.replay.specs.Replay.{ended}
+use Rattle.replay.specs.Answers.{answered, replay}
+use Rattle.replay.specs.InTurn.{InTurn, no-step, a-step}
+use Rattle.replay.proofs.Good.{in-turn-replayed, in-turn-holds}
+use Rattle.search.specs.Search.{stepping, sequencesOf, answerTo}
+use Rattle.search.proofs.Machine.{taken-accepted}
+use Rattle.search.proofs.Meaning.{listed, demand-3}
+
+some-same : {x y : Machine} → some x ≡ some y → x ≡ y
+some-same {x} {y} e = cc
+
+-- a run of the search's machine is steps accepted in turn
+pub run-in-turn : (p : Program) (q : List Step) (x y : Machine) → run (stepping p) x q ≡ some y → InTurn p x q y
+unfolding run
+run-in-turn p [] x y h = subst (InTurn p x []) (some-same h) no-step
+run-in-turn p (k ∷ q) x y h =
+    let i = first-step (stepping p) x y k q h in
+    a-step k (i .0) (taken-accepted (step p x k) (i .0) (i .1)) (run-in-turn p q (i .0) y (i .2))
+
+-- a wanted sequence leads to a machine that is complete, with the asked outcome
+wanted-run : (p : Program) (q : List Step) → wanted (stepping p) fresh q ≡ true → (y : Machine) × (run (stepping p) fresh q ≡ some y) × (asked p y ≡ true)
+unfolding wanted
+wanted-run p q h = go (run (stepping p) fresh q) refl h
+  where
+    go : (o : Option Machine) → run (stepping p) fresh q ≡ o → elim o [ none ↦ false | some y ↦ asked p y ] ≡ true
+        → (y : Machine) × (run (stepping p) fresh q ≡ some y) × (asked p y ≡ true)
+    go none e h = absurd (let z : _≡_ {A = ℕ} 0 1 = cc in omega arith)
+    go (some y) e h = (y, e, h)
+
+-- FOUND REPLAYS: the trace of an allowed answer is good, and it is complete and the question holds
+pub found-replays : (f : List ℕ) (p : Program) → readFile f ≡ program p → (b n : ℕ) (q : List Step) → answerTo p b ≡ allowed n q
+    → (y : Machine) × (replay f (traceBytes q) ≡ answered p (ended (length q) y)) × ((replay f (traceBytes q)) .holds ≡ true)
+found-replays f p good b n q e =
+    let w = wanted-run p q (demand-3 p b (sequencesOf p) (listed p) .allowed-then n q e .is-wanted) in
+    let t = run-in-turn p q fresh (w .0) (w .1) in
+    (w .0, in-turn-replayed f p good t, in-turn-holds f p good t ∙ w .2)

@@ -1,0 +1,52 @@
+-- The answer of a search on a program file for the code: verdict, count and number of trace steps; and the lent area afterwards.
+-- Assumes nothing.
+use mathlib.Core.Path.{_≡_}
+use mathlib.Core.Bool.{cond}
+use mathlib.Core.List.{List, _++_}
+use Prim.Native.Nat.{ℕ, _*_}
+use lib.Dec.{ltb}
+use lib.ListN.{length, drop}
+use Rattle.program.specs.declared.Program.{Program}
+use Rattle.program.specs.File.{FileAnswer, refused, program, readFile}
+use Rattle.step.specs.Step.{Step}
+use Rattle.step.specs.Trace.{traceBytes}
+use Rattle.sequences.specs.Answer as sequences
+use Rattle.search.specs.Search.{answerTo}
+pub use Rattle.search.specs.declared.Verdict.{Verdict}
+pub use Rattle.search.specs.declared.Verdict.the-variants.{Allowed, Forbidden, NotFinished, Refused}
+pub use Rattle.search.specs.declared.Answer.{Answer}
+
+-- verdict, count and number of trace steps, which is 0 unless allowed
+abbrev pub answerOf : sequences.Answer Step → Answer
+answerOf (sequences.allowed n q) = record { verdict = Allowed; count = n; steps = length q }
+answerOf (sequences.forbidden n) = record { verdict = Forbidden; count = n; steps = 0 }
+answerOf (sequences.unfinished n) = record { verdict = NotFinished; count = n; steps = 0 }
+
+-- when allowed, the trace takes the first 6 bytes per step of the lent area, and the remainder is untouched; in every other answer the whole area is
+abbrev pub areaOf : sequences.Answer Step → List ℕ → List ℕ
+areaOf (sequences.allowed n q) area = traceBytes q ++ drop (6 * length q) area
+areaOf (sequences.forbidden n) area = area
+areaOf (sequences.unfinished n) area = area
+
+-- both, on a program
+pub record Answers (p : Program) (b : ℕ) (r : Answer) (area after : List ℕ) : Type 0 where
+  pub answer : r ≡ answerOf (answerTo p b)
+  pub lent : after ≡ areaOf (answerTo p b) area
+
+-- a refusal: its number and place, count 0
+abbrev pub refusal : ℕ → ℕ → Answer
+refusal number place = record { verdict = Refused number place; count = 0; steps = 0 }
+
+-- 1 to 10 come first, then 30: lent trace area under 480 bytes
+abbrev pub answerOn : FileAnswer → ℕ → List ℕ → Answer
+answerOn (refused number place) b area = refusal number place
+answerOn (program p) b area = cond (ltb (length area) 480) (refusal 30 0) (answerOf (answerTo p b))
+
+abbrev pub areaOn : FileAnswer → ℕ → List ℕ → List ℕ
+areaOn (refused number place) b area = area
+areaOn (program p) b area = cond (ltb (length area) 480) area (areaOf (answerTo p b) area)
+
+-- THE SEARCH on a program file with budget b and a lent area: the answer, and the area afterwards
+pub record Searched (file : List ℕ) (b : ℕ) (area : List ℕ) (r : Answer) (after : List ℕ) : Type 0 where
+  pub answer : r ≡ answerOn (readFile file) b area
+  pub lent : after ≡ areaOn (readFile file) b area
