@@ -1,0 +1,64 @@
+-- Entries of equal width: read after they are written, and written after they are read.
+-- Assumes nothing.
+use mathlib.Core.Path.{_≡_, refl, sym, ap, ap₂, _∙_}
+use mathlib.Core.List.{List, [], _∷_, _++_, append-assoc}
+use Prim.Native.Nat.{ℕ, zero, suc, _+_, _*_, _≤_, _<_}
+use native.Mathlib.Nat.{mul-zero, mul-suc}
+use native.Mathlib.Omega.{arith}
+use lib.ListN.{length, getD, drop, length-drop, drop-of-length-le}
+use lib.Seq.{drop-cons, drop-at, drop-drop, getD-drop}
+use Rattle.program.specs.File.{byteAt}
+use Rattle.values.specs.Lists.{joined, entries}
+use Rattle.values.specs.Sized.{AllBytes}
+
+-- ---- bytes that are read one by one
+abbrev pub run : List ℕ → ℕ → ℕ → List ℕ
+run b k zero = []
+run b k (suc n) = byteAt b k ∷ run b (suc k) n
+
+pub run-again : (b : List ℕ) (k n : ℕ) → k + n ≤ length b → run b k n ++ drop (k + n) b ≡ drop k b
+run-again b k zero h = let e : k + 0 ≡ k = omega arith in ap (λ (j : ℕ). drop j b) e
+run-again b k (suc n) h =
+    let e : k + suc n ≡ suc k + n = omega arith in
+    ap (λ (j : ℕ). byteAt b k ∷ (run b (suc k) n ++ drop j b)) e
+    ∙ ap (λ (l : List ℕ). byteAt b k ∷ l) (run-again b (suc k) n (omega arith))
+    ∙ sym (drop-cons b k 0 (omega arith))
+
+pub bytes-drop : (n : ℕ) (b : List ℕ) → AllBytes b → AllBytes (drop n b)
+bytes-drop n b h k = rw (getD-drop n b k 0) (h (n + k))
+
+-- ---- the entries after a shift
+joined-shift : (f : ℕ → List ℕ) (k n : ℕ) → joined f (suc k) n ≡ joined (λ j. f (suc j)) k n
+unfolding joined
+joined-shift f k zero = refl
+joined-shift f k (suc n) = ap (λ (l : List ℕ). f (suc k) ++ l) (joined-shift f (suc k) n)
+
+module _ {A : Type 0} (e : A → List ℕ) (f : List ℕ → A) (w : ℕ) where
+  -- read after they are written
+  module _ (width : (x : A) → length (e x) ≡ w) (xs : List A) (d : A) (back : (j : ℕ) → j < length xs → (rest : List ℕ) → f (e (getD xs j d) ++ rest) ≡ getD xs j d) where
+    pub entries-back : (n k : ℕ) → k + n ≡ length xs → (rest : List ℕ) → entries f w n (joined (λ j. e (getD xs j d)) k n ++ rest) ≡ drop k xs
+    unfolding joined entries
+    entries-back zero k h rest = sym (drop-of-length-le xs {i = k} (omega arith))
+    entries-back (suc n) k h rest =
+        let x : A = getD xs k d in
+        let more : List ℕ = joined (λ j. e (getD xs j d)) (suc k) n ++ rest in
+        let l : k < length xs = omega arith in
+        ap (λ (b : List ℕ). f b ∷ entries f w n (drop w b)) (append-assoc (e x) (joined (λ j. e (getD xs j d)) (suc k) n) rest)
+        ∙ ap₂ (λ (y : A) (b : List ℕ). y ∷ entries f w n b) (back k l more) (drop-at (e x) more w (width x))
+        ∙ ap (λ (ys : List A). x ∷ ys) (entries-back n (suc k) (omega arith) rest)
+        ∙ sym (drop-cons xs k d l)
+
+  -- written after they are read
+  module _ (d : A) (again : (b : List ℕ) → w ≤ length b → AllBytes b → e (f b) ++ drop w b ≡ b) where
+    pub entries-again : (n : ℕ) (b : List ℕ) → w * n ≤ length b → AllBytes b → joined (λ j. e (getD (entries f w n b) j d)) 0 n ++ drop (w * n) b ≡ b
+    unfolding joined entries
+    entries-again zero b h o = ap (λ (j : ℕ). drop j b) (mul-zero w)
+    entries-again (suc n) b h o =
+        let c : List ℕ = drop w b in
+        let m : w * suc n ≡ w + w * n = omega (arith, mul-suc w n) in
+        let rest : drop (w * suc n) b ≡ drop (w * n) c = ap (λ (j : ℕ). drop j b) m ∙ sym (drop-drop (w * n) w b) in
+        let l : w * n ≤ length c = rw (length-drop w b) (omega arith) in
+        ap₂ (λ (x y : List ℕ). (e (f b) ++ x) ++ y) (joined-shift (λ j. e (getD (f b ∷ entries f w n c) j d)) 0 n) rest
+        ∙ append-assoc (e (f b)) (joined (λ j. e (getD (entries f w n c) j d)) 0 n) (drop (w * n) c)
+        ∙ ap (λ (x : List ℕ). e (f b) ++ x) (entries-again n c l (bytes-drop w b o))
+        ∙ again b (omega arith) o

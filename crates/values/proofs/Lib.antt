@@ -1,0 +1,7 @@
+pub mod Putting
+pub mod Filling
+pub mod ThreadAt
+pub mod Lengths
+pub mod Entries
+pub mod ProgramBack
+pub mod MachineBack

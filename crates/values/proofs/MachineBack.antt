@@ -1,0 +1,2 @@
+-- A machine value: decoding after encoding, and encoding after decoding, change nothing.
+-- Assumes nothing.

@@ -1,0 +1,15 @@
+-- `values::machine_value::put_memory` meets its contract: the count, then the messages.
+-- Assumes nothing.
+use native.Mathlib.Omega.{arith}
+use borrow.Author.Needs.{needs}
+use Rattle.values.proofs.Putting.{put-then}
+use Rattle.values.specs.MachineValue.{memoryBytes}
+use Rattle.values.proofs.machine_value.put_memory.Statement.{statement}
+use Rattle.values.proofs.machine_value.put_memory.Tie as tie
+
+returns : tie.Need-returns
+unfolding memoryBytes
+returns c = let i = c .before .before in put-then _ _ _ _ _ (i .before .before .before .before .put-one .ensures) (i .put-messages .ensures) (omega arith) (omega arith)
+
+pub put-memory-spec : {M : Type 1} → statement M
+put-memory-spec = tie.close (tie.spec (λ c κs. search needs) (λ c. search needs) (λ c κs. search needs) (λ c. search needs) returns)

@@ -1,0 +1,13 @@
+-- The types of the crates below, named once for this crate.
+-- Assumes nothing.
+pub use Rattle.program.specs.declared.Instruction.{Instruction}
+pub use Rattle.program.specs.declared.Code.{Code}
+pub use Rattle.program.specs.declared.Condition.{Condition}
+pub use Rattle.program.specs.declared.Program.{Program}
+pub use Rattle.machine.specs.declared.Message.{Message}
+pub use Rattle.machine.specs.declared.Memory.{Memory}
+pub use Rattle.machine.specs.declared.Register.{Register}
+pub use Rattle.machine.specs.declared.Forward.{Forward}
+pub use Rattle.machine.specs.declared.Views.{Views}
+pub use Rattle.machine.specs.declared.Thread.{Thread}
+pub use Rattle.machine.specs.declared.Machine.{Machine}

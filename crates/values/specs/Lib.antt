@@ -1,0 +1,6 @@
+pub mod Below
+pub mod Lists
+pub mod Numbers
+pub mod ProgramValue
+pub mod MachineValue
+pub mod Sized
