@@ -27,6 +27,16 @@ run-again b k (suc n) h =
 pub bytes-drop : (n : ℕ) (b : List ℕ) → AllBytes b → AllBytes (drop n b)
 bytes-drop n b h k = rw (getD-drop n b k 0) (h (n + k))
 
+-- ---- a part of some bytes, and what is left of them
+pub part-then : (p q r s t : List ℕ) → p ++ s ≡ t → q ++ r ≡ s → (p ++ q) ++ r ≡ t
+part-then p q r s t e e' = append-assoc p q r ∙ ap (λ (l : List ℕ). p ++ l) e' ∙ e
+
+pub part-at : (n w : ℕ) (b p : List ℕ) → p ++ drop w (drop n b) ≡ drop n b → p ++ drop (n + w) b ≡ drop n b
+part-at n w b p e = sym (ap (λ (l : List ℕ). p ++ l) (drop-drop w n b)) ∙ e
+
+pub drop-part : (n w : ℕ) (b p q rest : List ℕ) → drop n b ≡ (p ++ q) ++ rest → length p ≡ w → drop (n + w) b ≡ q ++ rest
+drop-part n w b p q rest e l = sym (drop-drop w n b) ∙ ap (drop w) (e ∙ append-assoc p q rest) ∙ drop-at p (q ++ rest) w l
+
 -- ---- the entries after a shift
 joined-shift : (f : ℕ → List ℕ) (k n : ℕ) → joined f (suc k) n ≡ joined (λ j. f (suc j)) k n
 unfolding joined

@@ -5,3 +5,4 @@ pub mod Lengths
 pub mod Entries
 pub mod ProgramBack
 pub mod MachineBack
+pub mod Words

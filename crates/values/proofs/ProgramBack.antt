@@ -4,7 +4,7 @@ use mathlib.Core.Path.{_≡_, refl, sym, ap, ap₂, _∙_}
 use mathlib.Core.List.{List, [], _∷_, _++_, append-nil}
 use Prim.Native.Nat.{ℕ, suc, _+_, _≤_, _<_}
 use native.Mathlib.Omega.{arith}
-use lib.ListN.{length, getD, drop, length-drop}
+use lib.ListN.{length, getD, drop, length-drop, drop-of-length-le}
 use lib.Seq.{drop-cons, drop-drop, drop-append-add, getD-append-add}
 use Rattle.program.specs.Program.{noInstruction, noCode, noCondition, instructionAt, codeOf}
 use Rattle.program.specs.File.{byteAt}
@@ -13,7 +13,7 @@ use Rattle.values.specs.Lists.{joined, entries}
 use Rattle.values.specs.ProgramValue.{instructionBytes, codeBytes, conditionBytes, programBytes, instructionFrom, codeFrom, conditionFrom, programOf}
 use Rattle.values.specs.Sized.{SizedProgram, AllBytes}
 use Rattle.values.proofs.Lengths.{code-length, codes-length}
-use Rattle.values.proofs.Entries.{run-again, bytes-drop, entries-back, entries-again}
+use Rattle.values.proofs.Entries.{run-again, bytes-drop, part-then, part-at, entries-back, entries-again}
 
 -- ---- decoding after encoding
 code-back : (c : Code) → length (c .instructions) ≡ 16 → (rest : List ℕ) → codeFrom (codeBytes c ++ rest) ≡ c
@@ -47,3 +47,21 @@ code-again b h o =
     ap (λ (x : List ℕ). byteAt b 0 ∷ (joined (λ k. instructionBytes (getD (entries instructionFrom 7 16 (drop 1 b)) k noInstruction)) 0 16 ++ x)) (sym (drop-drop 112 1 b))
     ∙ ap (λ (x : List ℕ). byteAt b 0 ∷ x) e
     ∙ sym (drop-cons b 0 0 (omega arith))
+
+pub program-again : (b : List ℕ) → length b ≡ 487 → AllBytes b → programBytes (programOf b) ≡ b
+unfolding programOf programBytes codeOf
+program-again b l o =
+    let cs : List ℕ = joined (λ i. codeBytes (getD (entries codeFrom 113 4 (drop 2 b)) i noCode)) 0 4 in
+    let qs : List ℕ = joined (λ k. conditionBytes (getD (entries conditionFrom 4 8 (drop 455 b)) k noCondition)) 0 8 in
+    let codes : cs ++ drop 454 b ≡ drop 2 b =
+    part-at 2 452 b cs (entries-again codeBytes codeFrom 113 noCode code-again 4 (drop 2 b) (rw (length-drop 2 b) (omega arith)) (bytes-drop 2 b o))
+    in
+    let question : qs ++ drop 487 b ≡ drop 455 b =
+    part-at 455 32 b qs (entries-again conditionBytes conditionFrom 4 noCondition (λ c h q. run-again c 0 4 h) 8 (drop 455 b) (rw (length-drop 455 b) (omega arith)) (bytes-drop 455 b o))
+    in
+    let end : drop 487 b ≡ [] = drop-of-length-le b {i = 487} (omega arith) in
+    sym (append-nil ((byteAt b 0 ∷ byteAt b 1 ∷ []) ++ (cs ++ (byteAt b 454 ∷ qs))))
+    ∙ ap (λ (x : List ℕ). ((byteAt b 0 ∷ byteAt b 1 ∷ []) ++ (cs ++ (byteAt b 454 ∷ qs))) ++ x) (sym end)
+    ∙ part-then (byteAt b 0 ∷ byteAt b 1 ∷ []) (cs ++ (byteAt b 454 ∷ qs)) (drop 487 b) (drop 2 b) b (run-again b 0 2 (omega arith))
+    (part-then cs (byteAt b 454 ∷ qs) (drop 487 b) (drop 454 b) (drop 2 b) codes
+    (ap (λ (x : List ℕ). byteAt b 454 ∷ x) question ∙ sym (drop-cons b 454 0 (omega arith))))
