@@ -29,15 +29,29 @@ pub fn put_u16(area: &mut [u8], at: usize, n: u16)
     put_two(area, at, (n % 256) as u8, (n / 256) as u8)
 }
 
+pub fn put_four(area: &mut [u8], at: usize, a: u8, b: u8, c: u8, d: u8)
+    requires { ⌜ at + 4 ≤ length (now area) ⌝ }
+    ensures { λ _. ⌜ now (area .exit) ≡ put at (a ∷ b ∷ c ∷ d ∷ []) (now (area .entry)) ⌝ }
+{
+    area[at] = a;
+    area[at + 1] = b;
+    area[at + 2] = c;
+    area[at + 3] = d;
+}
+
 // The low 32 bits, low byte first.
 pub fn put_u32(area: &mut [u8], at: usize, n: usize)
     requires { ⌜ at + 4 ≤ length (now area) ⌝ }
     ensures { λ _. ⌜ now (area .exit) ≡ put at (word32 n) (now (area .entry)) ⌝ }
 {
-    area[at] = (n % 256) as u8;
-    area[at + 1] = (n / 256 % 256) as u8;
-    area[at + 2] = (n / 65536 % 256) as u8;
-    area[at + 3] = (n / 16777216 % 256) as u8;
+    put_four(
+        area,
+        at,
+        (n % 256) as u8,
+        (n / 256 % 256) as u8,
+        (n / 65536 % 256) as u8,
+        (n / 16777216 % 256) as u8,
+    )
 }
 
 pub fn u16_of(low: u8, high: u8) -> u16
