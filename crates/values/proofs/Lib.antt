@@ -6,3 +6,4 @@ pub mod Entries
 pub mod ProgramBack
 pub mod MachineBack
 pub mod Words
+pub mod Sizes
