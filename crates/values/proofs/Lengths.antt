@@ -1,8 +1,8 @@
 -- The lengths of the byte forms, whatever the value.
 -- Assumes nothing.
 use mathlib.Core.Path.{_≡_, refl, sym, ap, _∙_}
-use mathlib.Core.List.{List, [], _∷_, _++_}
-use Prim.Native.Nat.{ℕ, zero, suc, _+_, _*_}
+use mathlib.Core.List.{List, [], _∷_}
+use Prim.Native.Nat.{ℕ, zero, suc, _*_}
 use native.Mathlib.Nat.{mul-zero, mul-suc}
 use native.Mathlib.Omega.{arith}
 use lib.ListN.{length, getD, length-append}
@@ -11,9 +11,8 @@ use Rattle.machine.specs.State.{freshRegister, freshForward, threadOf}
 use Rattle.views.specs.Views.{viewAt}
 use Rattle.values.specs.Below.{Code, Program, Memory, Thread, Machine}
 use Rattle.values.specs.Lists.{joined}
-use Rattle.values.specs.Numbers.{word16}
 use Rattle.values.specs.ProgramValue.{codeBytes, conditionBytes, programBytes}
-use Rattle.values.specs.MachineValue.{memoryBytes, registerBytes, forwardBytes, viewsBytes, threadBytes, machineBytes}
+use Rattle.values.specs.MachineValue.{memoryBytes, registerBytes, forwardBytes, threadBytes, machineBytes}
 
 pub joined-length : (f : ℕ → List ℕ) (w : ℕ) → ((j : ℕ) → length (f j) ≡ w) → (k n : ℕ) → length (joined f k n) ≡ w * n
 unfolding joined

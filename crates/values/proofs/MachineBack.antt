@@ -2,10 +2,10 @@
 -- Assumes nothing.
 use mathlib.Core.Path.{_≡_, refl, sym, ap, ap₂, _∙_}
 use mathlib.Core.List.{List, [], _∷_, _++_, append-assoc, append-nil}
-use Prim.Native.Nat.{ℕ, _+_, _*_, _/_, _%_, _≤_, _<_}
+use Prim.Native.Nat.{ℕ, _+_, _*_, _/_, _%_, _≤_}
 use native.Mathlib.Omega.{arith}
 use lib.ListN.{length, getD, drop, length-drop, drop-of-length-le}
-use lib.Seq.{drop-cons, drop-drop, drop-at}
+use lib.Seq.{drop-cons, drop-at}
 use Rattle.program.specs.File.{byteAt}
 use Rattle.views.specs.Views.{viewAt}
 use Rattle.machine.specs.State.{noMessage, freshRegister, freshForward, freshThread, threadOf}

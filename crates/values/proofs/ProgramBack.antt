@@ -1,14 +1,14 @@
 -- A program value: decoding after encoding, and encoding after decoding, change nothing.
 -- Assumes nothing.
-use mathlib.Core.Path.{_≡_, refl, sym, ap, ap₂, _∙_}
+use mathlib.Core.Path.{_≡_, refl, sym, ap, _∙_}
 use mathlib.Core.List.{List, [], _∷_, _++_, append-nil}
-use Prim.Native.Nat.{ℕ, suc, _+_, _≤_, _<_}
+use Prim.Native.Nat.{ℕ, _+_, _≤_}
 use native.Mathlib.Omega.{arith}
 use lib.ListN.{length, getD, drop, length-drop, drop-of-length-le}
 use lib.Seq.{drop-cons, drop-drop, drop-append-add, getD-append-add}
-use Rattle.program.specs.Program.{noInstruction, noCode, noCondition, instructionAt, codeOf}
+use Rattle.program.specs.Program.{noInstruction, noCode, noCondition, codeOf}
 use Rattle.program.specs.File.{byteAt}
-use Rattle.values.specs.Below.{Code, Condition, Program}
+use Rattle.values.specs.Below.{Code, Program}
 use Rattle.values.specs.Lists.{joined, entries}
 use Rattle.values.specs.ProgramValue.{instructionBytes, codeBytes, conditionBytes, programBytes, instructionFrom, codeFrom, conditionFrom, programOf}
 use Rattle.values.specs.Sized.{SizedProgram, AllBytes}

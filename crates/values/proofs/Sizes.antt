@@ -11,10 +11,10 @@ use lib.ListN.{length, getD, drop}
 use Rattle.program.specs.Program.{noCode, codeOf}
 use Rattle.program.specs.WellFormed.{programTest}
 use Rattle.program.proofs.Shape.{program-iff}
-use Rattle.machine.specs.State.{freshThread, threadOf}
+use Rattle.machine.specs.State.{freshThread}
 use Rattle.machine.specs.WellFormed.{Formed}
 use Rattle.machine.proofs.Formed.{machine-iff}
-use Rattle.values.specs.Below.{Code, Program, Thread, Machine}
+use Rattle.values.specs.Below.{Code, Program, Machine}
 use Rattle.values.specs.Lists.{entries}
 use Rattle.values.specs.ProgramValue.{codeFrom, programOf}
 use Rattle.values.specs.MachineValue.{memoryFrom, threadFrom, machineOf}

@@ -1,14 +1,12 @@
 -- The thread that is read from a place: where each of its parts stands.
 -- Assumes nothing.
-use mathlib.Core.Path.{_≡_, ap, ap₂, _∙_}
+use mathlib.Core.Path.{_≡_, ap, _∙_}
 use mathlib.Core.List.{List}
 use Prim.Native.Nat.{ℕ, _+_, _*_}
-use native.Mathlib.Nat.{add-zero}
 use native.Mathlib.Omega.{arith}
 use lib.ListN.{drop}
 use lib.Seq.{getD-drop, drop-drop}
 use Rattle.program.specs.File.{byteAt}
-use Rattle.values.specs.Below.{Thread}
 use Rattle.values.specs.Lists.{entries}
 use Rattle.values.specs.MachineValue.{registerFrom, forwardFrom, viewsFrom, threadFrom}
 

@@ -1,7 +1,6 @@
 -- `values::machine_value::coherence_from` meets its contract: the loop reads 16 bytes.
 -- Assumes nothing.
 use mathlib.Core.Path.{refl}
-use mathlib.Core.Path.{sym, _∙_, ap}
 use Prim.Native.Nat.{_+_, _-_}
 use native.Mathlib.Nat.{add-zero}
 use native.Mathlib.Omega.{arith}
