@@ -19,8 +19,8 @@ use Rattle.step.specs.Answers.{stepped}
 use Rattle.replay.specs.declared.Replayed.{Replayed}
 use Rattle.replay.specs.Answers.{replay}
 use Rattle.values.specs.Lists.{put}
-use Rattle.values.specs.ProgramValue.{programOf}
-use Rattle.values.specs.MachineValue.{machineOf}
+use Rattle.program_value.specs.Value.{programOf}
+use Rattle.machine_value.specs.Value.{machineOf}
 use Rattle.capi.specs.Answers.{readBytes, steppedBytes, certifiedBytes, replayedBytes}
 use Rattle.capi.specs.Calls.{Called, called, answered, onArea, onValue, readCall, stepCall, certifyCall, replayCall}
 

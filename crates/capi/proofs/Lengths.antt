@@ -6,7 +6,8 @@ use lib.ListN.{length}
 use Rattle.program.specs.declared.FileRead.{FileRead}
 use Rattle.step.specs.declared.Stepped.{Stepped}
 use Rattle.replay.specs.declared.Replayed.{Replayed}
-use Rattle.values.proofs.Lengths.{program-length, machine-length}
+use Rattle.program_value.proofs.Lengths.{program-length}
+use Rattle.machine_value.proofs.Lengths.{machine-length}
 use Rattle.capi.specs.Answers.{readBytes, steppedBytes, replayedBytes}
 
 pub read-length : (r : FileRead) → length (readBytes r) ≡ 495

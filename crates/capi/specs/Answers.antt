@@ -15,8 +15,8 @@ use Rattle.replay.specs.declared.ReplayAnswer.{ReplayAnswer}
 use Rattle.replay.specs.declared.ReplayAnswer.the-variants.{Good as ReplayGood, ProgramRefused, TraceRefused}
 use Rattle.replay.specs.declared.Replayed.{Replayed}
 use Rattle.values.specs.Numbers.{word32}
-use Rattle.values.specs.ProgramValue.{programBytes}
-use Rattle.values.specs.MachineValue.{machineBytes}
+use Rattle.program_value.specs.Value.{programBytes}
+use Rattle.machine_value.specs.Value.{machineBytes}
 
 -- ---- read: refusal (0 none), 3 zero bytes, place u32, the program value; 495 bytes
 abbrev pub readRefusal : ReadAnswer → ℕ

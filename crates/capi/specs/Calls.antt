@@ -11,8 +11,8 @@ use Rattle.certify.specs.Answers.{certification}
 use Rattle.step.specs.Step.{Step, step}
 use Rattle.step.specs.Answers.{stepped}
 use Rattle.replay.specs.Answers.{replay}
-use Rattle.values.specs.ProgramValue.{programOf}
-use Rattle.values.specs.MachineValue.{machineOf}
+use Rattle.program_value.specs.Value.{programOf}
+use Rattle.machine_value.specs.Value.{machineOf}
 use Rattle.capi.specs.Answers.{readBytes, steppedBytes, certifiedBytes, replayedBytes}
 
 -- the number that a call returns, and the area after it

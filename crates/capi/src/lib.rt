@@ -6,7 +6,9 @@ mod put;
 ghost use mathlib.Core.Path.{_≡_};
 ghost use Rattle.capi.specs.Calls.{called, readCall, stepCall, certifyCall, replayCall};
 use certify::certify;
+use machine_value::machine_of;
 use program::read;
+use program_value::program_of;
 use put::put_certified;
 use put::put_read;
 use put::put_replayed;
@@ -14,8 +16,6 @@ use put::put_stepped;
 use replay::replay;
 use step::TraceStep;
 use step::step;
-use values::machine_value::machine_of;
-use values::program_value::program_of;
 
 // The program of a file, as a program value; 495 bytes.
 #[no_mangle]

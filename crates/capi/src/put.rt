@@ -8,18 +8,18 @@ ghost use Rattle.step.specs.Answers.{refusalOf as stepRefusal};
 ghost use Rattle.values.specs.Lists.{put};
 ghost use Rattle.capi.specs.Answers.{readRefusal, readPlace, readBytes, steppedBytes, certifiedByte, certifiedBytes, replayRefusal, replayFile, replayIndex, replayPlace, replayedBytes};
 use certify::Certified;
+use machine_value::put_machine;
 use program::FileRead;
 use program::ReadAnswer;
+use program_value::put_program;
 use replay::ReplayAnswer;
 use replay::Replayed;
 use step::StepAnswer;
 use step::Stepped;
-use values::machine_value::put_machine;
-use values::numbers::put_four;
-use values::numbers::put_one;
-use values::numbers::put_two;
-use values::numbers::put_u32;
-use values::program_value::put_program;
+use values::put_four;
+use values::put_one;
+use values::put_two;
+use values::put_u32;
 
 // ---- read
 fn read_refusal(a: ReadAnswer) -> u8

@@ -3,25 +3,29 @@
 use mathlib.Core.Path.{_≡_, refl, sym, ap, ap₂, _∙_}
 use mathlib.Core.List.{List, [], _∷_, _++_, append-assoc}
 use Prim.Native.Nat.{ℕ, zero, suc, _+_, _*_, _≤_, _<_}
-use native.Mathlib.Nat.{mul-zero, mul-suc}
+use native.Mathlib.Nat.{mul-zero, mul-suc, not-suc-le-zero, le-of-suc-le-suc}
 use native.Mathlib.Omega.{arith}
-use lib.ListN.{length, getD, drop, length-drop, drop-of-length-le}
+use lib.ListN.{length, getD, drop, length-append, length-drop, drop-of-length-le}
 use lib.Seq.{drop-cons, drop-at, drop-drop, getD-drop}
-use Rattle.program.specs.File.{byteAt}
-use Rattle.values.specs.Lists.{joined, entries}
-use Rattle.values.specs.Sized.{AllBytes}
+use Rattle.values.specs.Lists.{joined, entries, AllBytes}
+
+-- ---- how long entries are together
+pub joined-length : (f : ℕ → List ℕ) (w : ℕ) → ((j : ℕ) → length (f j) ≡ w) → (k n : ℕ) → length (joined f k n) ≡ w * n
+unfolding joined
+joined-length f w e k zero = sym (mul-zero w)
+joined-length f w e k (suc n) = length-append (f k) (joined f (suc k) n) ∙ omega (arith, e k, joined-length f w e (suc k) n, mul-suc w n)
 
 -- ---- bytes that are read one by one
 abbrev pub run : List ℕ → ℕ → ℕ → List ℕ
 run b k zero = []
-run b k (suc n) = byteAt b k ∷ run b (suc k) n
+run b k (suc n) = getD b k 0 ∷ run b (suc k) n
 
 pub run-again : (b : List ℕ) (k n : ℕ) → k + n ≤ length b → run b k n ++ drop (k + n) b ≡ drop k b
 run-again b k zero h = let e : k + 0 ≡ k = omega arith in ap (λ (j : ℕ). drop j b) e
 run-again b k (suc n) h =
     let e : k + suc n ≡ suc k + n = omega arith in
-    ap (λ (j : ℕ). byteAt b k ∷ (run b (suc k) n ++ drop j b)) e
-    ∙ ap (λ (l : List ℕ). byteAt b k ∷ l) (run-again b (suc k) n (omega arith))
+    ap (λ (j : ℕ). getD b k 0 ∷ (run b (suc k) n ++ drop j b)) e
+    ∙ ap (λ (l : List ℕ). getD b k 0 ∷ l) (run-again b (suc k) n (omega arith))
     ∙ sym (drop-cons b k 0 (omega arith))
 
 pub bytes-drop : (n : ℕ) (b : List ℕ) → AllBytes b → AllBytes (drop n b)
@@ -72,3 +76,17 @@ module _ {A : Type 0} (e : A → List ℕ) (f : List ℕ → A) (w : ℕ) where
         ∙ append-assoc (e (f b)) (joined (λ j. e (getD (entries f w n c) j d)) 0 n) (drop (w * n) c)
         ∙ ap (λ (x : List ℕ). e (f b) ++ x) (entries-again n c l (bytes-drop w b o))
         ∙ again b (omega arith) o
+
+-- ---- entries that are read: how many, and what holds of each
+module _ {A : Type 0} (f : List ℕ → A) (w : ℕ) where
+  pub entries-length : (n : ℕ) (b : List ℕ) → length (entries f w n b) ≡ n
+  unfolding entries
+  entries-length zero b = refl
+  entries-length (suc n) b = ap suc (entries-length n (drop w b))
+
+  -- what holds of every entry that is read holds of each in the list
+  pub entries-each : (P : A → Type 0) → ((c : List ℕ) → P (f c)) → (n : ℕ) (b : List ℕ) (i : ℕ) (d : A) → i < n → P (getD (entries f w n b) i d)
+  unfolding entries
+  entries-each P h zero b i d l = absurd (not-suc-le-zero l)
+  entries-each P h (suc n) b zero d l = h b
+  entries-each P h (suc n) b (suc i) d l = entries-each P h n (drop w b) i d (le-of-suc-le-suc l)
