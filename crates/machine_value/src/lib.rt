@@ -110,6 +110,7 @@ fn put_threads(area: &mut [u8], at: usize, x: Machine)
     }
 }
 
+// All 341 bytes from the place on; everything else in the area stays.
 pub fn put_machine(area: &mut [u8], at: usize, x: Machine)
     requires { ⌜ at + 341 ≤ length (now area) ⌝ }
     ensures { λ _. ⌜ now (area .exit) ≡ put at (machineBytes x) (now (area .entry)) ⌝ }
@@ -253,6 +254,7 @@ fn threads_from(b: &[u8], at: usize) -> [Thread; 4]
     threads
 }
 
+// Any 341 bytes are a machine; whether it is well formed is for others to test.
 pub fn machine_of(b: &[u8]) -> Machine
     requires { ⌜ 341 ≤ length (now b) ⌝ }
     ensures { λ r. ⌜ r ≡ machineOf (now (b .entry)) ⌝ }

@@ -73,6 +73,7 @@ fn put_question(area: &mut [u8], at: usize, p: Program)
     }
 }
 
+// All 487 bytes from the place on; everything else in the area stays.
 pub fn put_program(area: &mut [u8], at: usize, p: Program)
     requires { ⌜ at + 487 ≤ length (now area) ⌝ }
     ensures { λ _. ⌜ now (area .exit) ≡ put at (programBytes p) (now (area .entry)) ⌝ }
@@ -158,6 +159,7 @@ fn question_from(b: &[u8], at: usize) -> [Condition; 8]
     question
 }
 
+// Any 487 bytes are a program; whether it is well formed is for others to test.
 pub fn program_of(b: &[u8]) -> Program
     requires { ⌜ 487 ≤ length (now b) ⌝ }
     ensures { λ r. ⌜ r ≡ programOf (now (b .entry)) ⌝ }

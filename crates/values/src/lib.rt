@@ -54,6 +54,7 @@ pub fn put_u32(area: &mut [u8], at: usize, n: usize)
     )
 }
 
+// The number that put_u16 wrote as these two bytes.
 pub fn u16_of(low: u8, high: u8) -> u16
     ensures { λ r. ⌜ r ≡ low + 256 * high ⌝ }
 {
