@@ -1,0 +1,23 @@
+-- Answers that meet a call's contract coincide: the number that is returned, and the whole area afterwards.
+-- Assumes nothing.
+use mathlib.Core.Path.{_≡_, sym, ap, _∙_}
+use mathlib.Core.List.{List}
+use Prim.Native.Nat.{ℕ}
+use Rattle.step.specs.Step.{Step}
+use Rattle.capi.specs.Calls.{Called, called, readCall, stepCall, certifyCall, replayCall}
+
+same : (n n' : ℕ) (a a' : List ℕ) (c : Called) → called n a ≡ c → called n' a' ≡ c → (n ≡ n') × (a ≡ a')
+same n n' a a' c e e' = (ap (λ (x : Called). x .number) (e ∙ sym e'), ap (λ (x : Called). x .area) (e ∙ sym e'))
+
+module _ (n n' : ℕ) (a a' area : List ℕ) where
+  pub read-coincide : (file : List ℕ) → called n a ≡ readCall file area → called n' a' ≡ readCall file area → (n ≡ n') × (a ≡ a')
+  read-coincide file = same n n' a a' (readCall file area)
+
+  pub step-coincide : (p x : List ℕ) (k : Step) → called n a ≡ stepCall p x k area → called n' a' ≡ stepCall p x k area → (n ≡ n') × (a ≡ a')
+  step-coincide p x k = same n n' a a' (stepCall p x k area)
+
+  pub certify-coincide : (p x : List ℕ) (i : ℕ) → called n a ≡ certifyCall p x i area → called n' a' ≡ certifyCall p x i area → (n ≡ n') × (a ≡ a')
+  certify-coincide p x i = same n n' a a' (certifyCall p x i area)
+
+  pub replay-coincide : (file trace : List ℕ) → called n a ≡ replayCall file trace area → called n' a' ≡ replayCall file trace area → (n ≡ n') × (a ≡ a')
+  replay-coincide file trace = same n n' a a' (replayCall file trace area)

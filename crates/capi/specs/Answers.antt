@@ -1,0 +1,73 @@
+-- The bytes of each call's answer.
+-- Assumes nothing.
+use mathlib.Core.Bool.{cond}
+use mathlib.Core.List.{List, [], _∷_, _++_}
+use Prim.Native.Nat.{ℕ}
+use Rattle.program.specs.declared.ReadAnswer.{ReadAnswer}
+use Rattle.program.specs.declared.ReadAnswer.the-variants.{Good, Refused}
+use Rattle.program.specs.declared.FileRead.{FileRead}
+use Rattle.certify.specs.declared.Certified.{Certified}
+use Rattle.certify.specs.declared.Certified.the-variants.{Yes, No, Refused as CertifyRefused}
+use Rattle.certify.specs.Answers.{refusalOf as certifyRefusal}
+use Rattle.step.specs.declared.Stepped.{Stepped}
+use Rattle.step.specs.Answers.{refusalOf as stepRefusal}
+use Rattle.replay.specs.declared.ReplayAnswer.{ReplayAnswer}
+use Rattle.replay.specs.declared.ReplayAnswer.the-variants.{Good as ReplayGood, ProgramRefused, TraceRefused}
+use Rattle.replay.specs.declared.Replayed.{Replayed}
+use Rattle.values.specs.Numbers.{word32}
+use Rattle.program_value.specs.Value.{programBytes}
+use Rattle.machine_value.specs.Value.{machineBytes}
+
+-- ---- read: refusal (0 none), 3 zero bytes, place u32, the program value; 495 bytes
+abbrev pub readRefusal : ReadAnswer → ℕ
+readRefusal Good = 0
+readRefusal (Refused n place) = n
+
+abbrev pub readPlace : ReadAnswer → ℕ
+readPlace Good = 0
+readPlace (Refused n place) = place
+
+unfoldable pub readBytes : FileRead → List ℕ
+readBytes r = (readRefusal (r .answer) ∷ 0 ∷ 0 ∷ 0 ∷ []) ++ (word32 (readPlace (r .answer)) ++ programBytes (r .program))
+
+-- ---- step: refusal (0 accepted), the machine value; 342 bytes
+unfoldable pub steppedBytes : Stepped → List ℕ
+steppedBytes r = (stepRefusal (r .answer) ∷ []) ++ machineBytes (r .machine)
+
+-- ---- certify: refusal, certified (0 or 1); 2 bytes
+abbrev pub certifiedByte : Certified → ℕ
+certifiedByte Yes = 1
+certifiedByte No = 0
+certifiedByte (CertifyRefused n) = 0
+
+abbrev pub certifiedBytes : Certified → List ℕ
+certifiedBytes r = certifyRefusal r ∷ certifiedByte r ∷ []
+
+-- ---- replay: refusal, the file it is in (0 none, 1 program, 2 trace), complete, holds, steps u32, index u32, place u32, the machine value; 357 bytes
+abbrev pub replayRefusal : ReplayAnswer → ℕ
+replayRefusal ReplayGood = 0
+replayRefusal (ProgramRefused n place) = n
+replayRefusal (TraceRefused n index place) = n
+
+abbrev pub replayFile : ReplayAnswer → ℕ
+replayFile ReplayGood = 0
+replayFile (ProgramRefused n place) = 1
+replayFile (TraceRefused n index place) = 2
+
+abbrev pub replayIndex : ReplayAnswer → ℕ
+replayIndex ReplayGood = 0
+replayIndex (ProgramRefused n place) = 0
+replayIndex (TraceRefused n index place) = index
+
+abbrev pub replayPlace : ReplayAnswer → ℕ
+replayPlace ReplayGood = 0
+replayPlace (ProgramRefused n place) = place
+replayPlace (TraceRefused n index place) = place
+
+unfoldable pub replayedBytes : Replayed → List ℕ
+replayedBytes r =
+    (replayRefusal (r .answer) ∷ replayFile (r .answer) ∷ cond (r .complete) 1 0 ∷ cond (r .holds) 1 0 ∷ [])
+    ++ (word32 (r .steps)
+    ++ (word32 (replayIndex (r .answer))
+    ++ (word32 (replayPlace (r .answer))
+    ++ machineBytes (r .machine))))

@@ -1,0 +1,57 @@
+-- What each call returns and leaves in the answer area, for every input.
+-- Assumes nothing.
+use mathlib.Core.Bool.{cond}
+use mathlib.Core.List.{List, _++_}
+use Prim.Native.Nat.{ℕ}
+use lib.Dec.{eqb, ltb}
+use lib.ListN.{length, drop}
+use Rattle.program.specs.File.{readFile}
+use Rattle.program.specs.Answers.{fileRead}
+use Rattle.certify.specs.Answers.{certification}
+use Rattle.step.specs.Step.{Step, step}
+use Rattle.step.specs.Answers.{stepped}
+use Rattle.replay.specs.Answers.{replay}
+use Rattle.program_value.specs.Value.{programOf}
+use Rattle.machine_value.specs.Value.{machineOf}
+use Rattle.capi.specs.Answers.{readBytes, steppedBytes, certifiedBytes, replayedBytes}
+
+-- the number that a call returns, and the area after it
+pub record Called : Type 0 where
+  pub number : ℕ
+  pub area : List ℕ
+
+abbrev pub called : ℕ → List ℕ → Called
+called n area = record { number = n; area = area }
+
+-- the answer's bytes, and what stood behind them
+abbrev pub answered : List ℕ → List ℕ → Called
+answered bytes area = called 0 (bytes ++ drop (length bytes) area)
+
+-- an area shorter than n bytes: 1, and nothing is written
+abbrev pub onArea : ℕ → List ℕ → Called → Called
+onArea n area on = cond (ltb (length area) n) (called 1 area) on
+
+-- a value of another length than n: 2, and nothing is written
+abbrev pub onValue : ℕ → List ℕ → List ℕ → Called → Called
+onValue n value area on = cond (eqb (length value) n) on (called 2 area)
+
+-- ---- the calls
+unfoldable pub readCall : List ℕ → List ℕ → Called
+readCall file area = onArea 495 area (answered (readBytes (fileRead (readFile file))) area)
+
+unfoldable pub stepCall : List ℕ → List ℕ → Step → List ℕ → Called
+stepCall p x k area =
+    onArea 342 area
+    (onValue 487 p area
+    (onValue 341 x area
+    (answered (steppedBytes (stepped (machineOf x) (step (programOf p) (machineOf x) k))) area)))
+
+unfoldable pub certifyCall : List ℕ → List ℕ → ℕ → List ℕ → Called
+certifyCall p x i area =
+    onArea 2 area
+    (onValue 487 p area
+    (onValue 341 x area
+    (answered (certifiedBytes (certification (programOf p) (machineOf x) i)) area)))
+
+unfoldable pub replayCall : List ℕ → List ℕ → List ℕ → Called
+replayCall file trace area = onArea 357 area (answered (replayedBytes (replay file trace)) area)

@@ -1,0 +1,100 @@
+// The public calls on byte slices, for programs in C and Rust. Nothing is required of a caller. Each call returns 0; 1 where the
+// answer area is shorter than the answer; 2 where a program or machine value has another length than stated. On 1 and 2 nothing
+// is written; otherwise exactly the answer's bytes.
+mod put;
+
+ghost use mathlib.Core.Path.{_≡_};
+ghost use Rattle.capi.specs.Calls.{called, readCall, stepCall, certifyCall, replayCall};
+use certify::certify;
+use machine_value::machine_of;
+use program::read;
+use program_value::program_of;
+use put::put_certified;
+use put::put_read;
+use put::put_replayed;
+use put::put_stepped;
+use replay::replay;
+use step::TraceStep;
+use step::step;
+
+// The program of a file, as a program value; 495 bytes.
+#[no_mangle]
+pub extern "C" fn blyskota_read(file: &[u8], answer: &mut [u8]) -> u32
+    ensures { λ r. ⌜ called r (now (answer .exit)) ≡ readCall (now (file .entry)) (now (answer .entry)) ⌝ }
+{
+    if answer.len() < 495 {
+        return 1;
+    }
+    put_read(answer, read(file));
+    0
+}
+
+// One step on a machine value; 342 bytes.
+#[no_mangle]
+pub extern "C" fn blyskota_step(
+    program: &[u8],
+    machine: &[u8],
+    kind: u8,
+    thread: u8,
+    a: u8,
+    b: u8,
+    answer: &mut [u8],
+) -> u32
+    ensures { λ r. ⌜ called r (now (answer .exit)) ≡ stepCall (now (program .entry)) (now (machine .entry)) (record { kind = kind; thread = thread; a = a; b = b }) (now (answer .entry)) ⌝ }
+{
+    if answer.len() < 342 {
+        return 1;
+    }
+    if program.len() != 487 {
+        return 2;
+    }
+    if machine.len() != 341 {
+        return 2;
+    }
+    let k = TraceStep {
+        kind: kind,
+        thread: thread,
+        a: a,
+        b: b,
+    };
+    put_stepped(answer, step(program_of(program), machine_of(machine), k));
+    0
+}
+
+// Whether a thread is certified on a machine value; 2 bytes.
+#[no_mangle]
+pub extern "C" fn blyskota_certify(
+    program: &[u8],
+    machine: &[u8],
+    thread: u8,
+    answer: &mut [u8],
+) -> u32
+    ensures { λ r. ⌜ called r (now (answer .exit)) ≡ certifyCall (now (program .entry)) (now (machine .entry)) thread (now (answer .entry)) ⌝ }
+{
+    if answer.len() < 2 {
+        return 1;
+    }
+    if program.len() != 487 {
+        return 2;
+    }
+    if machine.len() != 341 {
+        return 2;
+    }
+    put_certified(
+        answer,
+        certify(program_of(program), machine_of(machine), thread),
+    );
+    0
+}
+
+// The replay of a trace file on a program file; 357 bytes.
+#[no_mangle]
+pub extern "C" fn blyskota_replay(file: &[u8], trace: &[u8], answer: &mut [u8]) -> u32
+    ensures { λ r. ⌜ called r (now (answer .exit)) ≡ replayCall (now (file .entry)) (now (trace .entry)) (now (answer .entry)) ⌝ }
+{
+    if answer.len() < 357 {
+        return 1;
+    }
+    put_replayed(answer, replay(file, trace));
+    0
+}

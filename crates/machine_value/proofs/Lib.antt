@@ -1,0 +1,4 @@
+pub mod Lengths
+pub mod ThreadAt
+pub mod Back
+pub mod Sizes

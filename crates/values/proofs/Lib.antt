@@ -1,0 +1,4 @@
+pub mod Putting
+pub mod Filling
+pub mod Entries
+pub mod Words

@@ -1,0 +1,77 @@
+/*
+ * Blyskota: a judge of Armv8 litmus programs. C interface of libcapi.a (rt staticlib capi).
+ *
+ * Every call takes byte slices, each as a pointer and a length, and writes its answer into an area that the caller lends. It returns
+ *
+ *   0  the answer is written: exactly its bytes, at the start of the area; what lies behind them stays;
+ *   1  the area is shorter than the answer: nothing is written;
+ *   2  a program or machine value has another length than it should: nothing is written. (1 is tested first.)
+ *
+ * What is in the bytes does not matter: any file, trace, program value and machine value gets an answer. What is not well formed is
+ * refused by a number in the answer. The caller owes what C asks of any pointer: each points to as many bytes as its length says,
+ * also where that is 0 (not NULL), and the answer area overlaps none of the other slices.
+ *
+ * Numbers of more than one byte are little endian. Places, steps and indexes are 32 bits wide; from a file of 4 GiB or more they
+ * are the low 32 bits of the number. Calls keep nothing between them, and may run at the same time on different areas.
+ *
+ * Refusals: 1 to 10 in a program file, 1 and 2 in a trace file, 20 to 29 of a step; 0 is none (docs/CONTRACTS.md has the table).
+ */
+#ifndef BLYSKOTA_H
+#define BLYSKOTA_H
+
+#include <stddef.h>
+#include <stdint.h>
+
+#ifdef __cplusplus
+extern "C" {
+#endif
+
+/*
+ * A program value, 487 bytes: version, threads, 4 x (instruction count, 16 x 7 bytes op m r k1 n1 k2 n2), condition count,
+ * 8 x (kind, thread, index, value). Entries that are not used are 0.
+ */
+#define BLYSKOTA_PROGRAM 487
+
+/*
+ * A machine value, 341 bytes: message count; 16 x (location, value, thread); 4 x (position; 8 x (register value, view);
+ * 16 x coherence view; 16 x (forward time, forward view); rOld, wOld, rNew, wNew, CAP, Rel; promises, low byte first, bit t - 1 for
+ * time t).
+ */
+#define BLYSKOTA_MACHINE 341
+
+/* The lengths of the answers. */
+#define BLYSKOTA_READ_ANSWER 495
+#define BLYSKOTA_STEP_ANSWER 342
+#define BLYSKOTA_CERTIFY_ANSWER 2
+#define BLYSKOTA_REPLAY_ANSWER 357
+
+/*
+ * Reads a program file. Answer, 495 bytes: refusal (0 none), 3 zero bytes, place u32 (0 where nothing is refused), the program
+ * value (all 0 where the file is refused).
+ */
+uint32_t blyskota_read(const uint8_t *file, size_t file_len, uint8_t *answer, size_t answer_len);
+
+/*
+ * One step: kind 0 executes the next instruction of a thread at time a (b = 0), kind 1 promises location a, value b. Answer,
+ * 342 bytes: refusal (0 accepted), the machine value after the step; a refused machine is as it came in.
+ */
+uint32_t blyskota_step(const uint8_t *program, size_t program_len, const uint8_t *machine, size_t machine_len, uint8_t kind,
+                       uint8_t thread, uint8_t a, uint8_t b, uint8_t *answer, size_t answer_len);
+
+/* Whether a thread is certified. Answer, 2 bytes: refusal (20, 21 or 0), certified (0 or 1). */
+uint32_t blyskota_certify(const uint8_t *program, size_t program_len, const uint8_t *machine, size_t machine_len, uint8_t thread,
+                          uint8_t *answer, size_t answer_len);
+
+/*
+ * Replays a trace file on a program file. Answer, 357 bytes: refusal, the file it is in (0 none, 1 program, 2 trace), complete
+ * (0 or 1), holds (complete with the asked outcome, 0 or 1), steps taken u32, index of the refused record u32, place u32, the machine
+ * value after the steps.
+ */
+uint32_t blyskota_replay(const uint8_t *file, size_t file_len, const uint8_t *trace, size_t trace_len, uint8_t *answer,
+                         size_t answer_len);
+
+#ifdef __cplusplus
+}
+#endif
+
+#endif
