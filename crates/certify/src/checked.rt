@@ -4,7 +4,7 @@ ghost use Rattle.certify.specs.Answers.{certification};
 use crate::Certified;
 use crate::certify_within;
 use machine::Machine;
-use machine::well_formed::both_formed;
+use machine_form::both_formed;
 use program::Program;
 
 pub fn certify(p: Program, x: Machine, i: u8) -> Certified

@@ -14,15 +14,15 @@ use machine::Memory;
 use machine::Message;
 use machine::RuleAnswer;
 use machine::Thread;
-use machine::operands::address;
-use machine::operands::value_of;
 use machine::promises::first;
 use machine::promises::is_empty;
-use machine::rules::execute;
-use machine::stores::own_store;
 use program::Code;
 use program::Instr;
 use program::Operand;
+use rules::execute;
+use rules::operands::address;
+use rules::operands::value_of;
+use rules::own_store;
 
 // Whether a thread is certified, or the number of the refusal.
 pub enum Certified {

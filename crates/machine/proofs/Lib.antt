@@ -5,6 +5,4 @@ pub mod Formed
 pub mod Kept
 pub mod Independent
 pub mod Words
-pub mod Newest
 pub mod Cases
-pub mod Loops

@@ -1,16 +1,10 @@
 // The machine by value: messages, memory, a thread's state with its views, four threads. Times and views are bytes.
 pub mod answers;
-pub mod loads;
 pub mod machines;
 pub mod merge;
 pub mod messages;
-pub mod operands;
-pub mod plain;
 pub mod promises;
-pub mod rules;
-pub mod stores;
 pub mod threads;
-pub mod well_formed;
 
 // A message of memory: a store of `thread`.
 pub struct Message {

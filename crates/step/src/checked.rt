@@ -7,7 +7,7 @@ use crate::TraceStep;
 use crate::refused;
 use crate::rule_step;
 use machine::Machine;
-use machine::well_formed::both_formed;
+use machine_form::both_formed;
 use program::Program;
 
 pub fn step(p: Program, x: Machine, k: TraceStep) -> Stepped

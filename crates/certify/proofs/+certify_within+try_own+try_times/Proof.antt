@@ -23,8 +23,8 @@ use Rattle.certify.proofs.worth_trying.Reads as worth-trying-reads
 use Rattle.machine.proofs.Memory.append.Reads as append-reads
 use Rattle.certify.proofs.own_message.Reads as own-message-reads
 use Rattle.machine.proofs.promises.is_empty.Reads as is-empty-reads
-use Rattle.machine.proofs.rules.execute.Reads as execute-reads
-use Rattle.machine.proofs.stores.own_store.Reads as own-store-reads
+use Rattle.rules.proofs.execute.Reads as execute-reads
+use Rattle.rules.proofs.own_store.Reads as own-store-reads
 use Rattle.program.proofs.Code.instr_at.Reads as instr-at-reads
 use Rattle.certify.proofs.+certify_within+try_own+try_times.{statement}
 use Rattle.certify.proofs.+certify_within+try_own+try_times.Tie.{close}
