@@ -9,13 +9,13 @@ use Prim.Native.Nat.{ℕ, zero, suc, _+_, _-_, _<_}
 use native.Mathlib.Omega.{arith}
 use lib.Dec.{T, eqb, eqb→eq, eqb-refl}
 use lib.ListN.{set}
-use Rattle.program.specs.declared.Code.{Code}
-use Rattle.program.specs.declared.Operand.{Operand}
-use Rattle.program.specs.declared.StoreMode.{StoreMode}
-use Rattle.program.specs.declared.Instr.{Instr}
-use Rattle.program.specs.declared.Instr.the-variants.{Compute, Load, Store, Branch, Fence}
-use Rattle.program.specs.Program.{instrAt}
-use Rattle.program.proofs.Tests.{or-cases, or-left, or-right, and-left, and-right, and-both, eq→eqb}
+use Rattle.source.specs.declared.Code.{Code}
+use Rattle.source.specs.declared.Operand.{Operand}
+use Rattle.source.specs.declared.StoreMode.{StoreMode}
+use Rattle.source.specs.declared.Instr.{Instr}
+use Rattle.source.specs.declared.Instr.the-variants.{Compute, Load, Store, Branch, Fence}
+use Rattle.source.specs.Program.{instrAt}
+use Rattle.source.proofs.Tests.{or-cases, or-left, or-right, and-left, and-right, and-both, eq→eqb}
 use Rattle.machine.specs.declared.Memory.{Memory}
 use Rattle.machine.specs.declared.Thread.{Thread}
 use Rattle.machine.specs.Rules.{address, combine, branchBy}

@@ -10,8 +10,8 @@ use lib.Dec.{eqb}
 use lib.ListN.{length, getD, set, length-set, List·getD-eq-default, List·getD-map}
 use lib.Seq.{getD-set-same, getD-set-other, set-out, set-getD}
 use borrow.Author.Tests.{eqb-true}
-use Rattle.program.specs.declared.Operand.{Operand}
-use Rattle.program.specs.declared.Operand.the-variants.{Constant, OfRegister}
+use Rattle.source.specs.declared.Operand.{Operand}
+use Rattle.source.specs.declared.Operand.the-variants.{Constant, OfRegister}
 use Rattle.machine.specs.declared.Register.{Register}
 use Rattle.machine.specs.declared.Thread.{Thread}
 use Rattle.machine.specs.State.{freshRegister}

@@ -10,13 +10,13 @@ use native.Mathlib.Omega.{arith}
 use lib.Dec.{T, eqb}
 use lib.ListN.{length, getD, set}
 use lib.Seq.{getD-set-same, getD-set-other}
-use Rattle.program.specs.declared.Operand.{Operand}
-use Rattle.program.specs.declared.Operand.the-variants.{Constant}
-use Rattle.program.specs.declared.ComputeMode.{ComputeMode}
-use Rattle.program.specs.declared.LoadMode.{LoadMode}
-use Rattle.program.specs.declared.StoreMode.{StoreMode}
-use Rattle.program.specs.declared.Instr.{Instr}
-use Rattle.program.specs.declared.Instr.the-variants.{Compute, Load, Store, Branch, Fence}
+use Rattle.source.specs.declared.Operand.{Operand}
+use Rattle.source.specs.declared.Operand.the-variants.{Constant}
+use Rattle.source.specs.declared.ComputeMode.{ComputeMode}
+use Rattle.source.specs.declared.LoadMode.{LoadMode}
+use Rattle.source.specs.declared.StoreMode.{StoreMode}
+use Rattle.source.specs.declared.Instr.{Instr}
+use Rattle.source.specs.declared.Instr.the-variants.{Compute, Load, Store, Branch, Fence}
 use Rattle.machine.specs.declared.Memory.{Memory}
 use Rattle.machine.specs.State.{noMessage, messageAt}
 use Rattle.machine.specs.Rules.{address, combine, branchBy}

@@ -8,13 +8,13 @@ use mathlib.Core.Option.{Option, none, some}
 use Prim.Native.Nat.{ℕ, suc, _+_, _≤_, _<_}
 use native.Mathlib.Decide.{ℕ-discrete}
 use native.Mathlib.Omega.{arith}
-use Rattle.program.specs.declared.Code.{Code}
-use Rattle.program.specs.declared.Operand.{Operand}
-use Rattle.program.specs.declared.StoreMode.{StoreMode}
-use Rattle.program.specs.declared.Instr.{Instr}
-use Rattle.program.specs.declared.Instr.the-variants.{Store}
-use Rattle.program.specs.Program.{instrAt}
-use Rattle.program.proofs.Counts.{there}
+use Rattle.source.specs.declared.Code.{Code}
+use Rattle.source.specs.declared.Operand.{Operand}
+use Rattle.source.specs.declared.StoreMode.{StoreMode}
+use Rattle.source.specs.declared.Instr.{Instr}
+use Rattle.source.specs.declared.Instr.the-variants.{Store}
+use Rattle.source.specs.Program.{instrAt}
+use Rattle.source.proofs.Counts.{there}
 use Rattle.machine.specs.declared.Memory.{Memory}
 use Rattle.machine.specs.declared.Thread.{Thread}
 use Rattle.machine.specs.Rules.{address}

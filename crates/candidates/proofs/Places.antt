@@ -8,8 +8,8 @@ use native.Mathlib.Decide.{ℕ-discrete}
 use native.Mathlib.Omega.{arith}
 use lib.Bits.{xor-self}
 use borrow.Author.Tests.{eq-eqb}
-use Rattle.program.specs.declared.ComputeMode.{ComputeMode}
-use Rattle.program.specs.declared.ComputeMode.the-variants.{Subtract, ExclusiveOr, Equal}
+use Rattle.source.specs.declared.ComputeMode.{ComputeMode}
+use Rattle.source.specs.declared.ComputeMode.the-variants.{Subtract, ExclusiveOr, Equal}
 use Rattle.machine.specs.Rules.{combine}
 use Rattle.candidates.specs.declared.Values.{Values}
 use Rattle.candidates.specs.Answers.{dropped, byteAt, Every, Among, In, Wider, Computed}

@@ -6,7 +6,7 @@ use mathlib.Core.List.{List}
 use Prim.Native.Nat.{ℕ, _+_, _≤_, _<_}
 use native.Mathlib.Omega.{arith}
 use lib.ListN.{getD}
-use Rattle.program.specs.declared.ComputeMode.the-variants.{Add}
+use Rattle.source.specs.declared.ComputeMode.the-variants.{Add}
 use Rattle.machine.specs.declared.Message.{Message}
 use Rattle.machine.specs.State.{noMessage}
 use Rattle.machine.specs.Rules.{address, combine}

@@ -7,12 +7,12 @@ use mathlib.Core.List.{List}
 use Prim.Native.Nat.{ℕ, zero, suc, _+_, _/_, _%_, _≤_, _<_}
 use lib.Dec.{T}
 use lib.ListN.{length, getD, set}
-use Rattle.program.specs.declared.Code.{Code}
-use Rattle.program.specs.declared.Operand.{Operand}
-use Rattle.program.specs.declared.ComputeMode.{ComputeMode}
-use Rattle.program.specs.declared.StoreMode.{StoreMode}
-use Rattle.program.specs.declared.Instr.{Instr}
-use Rattle.program.specs.declared.Instr.the-variants.{Compute, Load, Store, Branch, Fence}
+use Rattle.source.specs.declared.Code.{Code}
+use Rattle.source.specs.declared.Operand.{Operand}
+use Rattle.source.specs.declared.ComputeMode.{ComputeMode}
+use Rattle.source.specs.declared.StoreMode.{StoreMode}
+use Rattle.source.specs.declared.Instr.{Instr}
+use Rattle.source.specs.declared.Instr.the-variants.{Compute, Load, Store, Branch, Fence}
 use Rattle.machine.specs.declared.Message.{Message}
 use Rattle.machine.specs.declared.Memory.{Memory}
 use Rattle.machine.specs.declared.Thread.{Thread}

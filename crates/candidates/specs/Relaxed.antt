@@ -7,15 +7,15 @@ use mathlib.Core.Option.{some}
 use Prim.Native.Nat.{ℕ, suc, _+_, _<_}
 use lib.Dec.{T, eqb}
 use lib.ListN.{set}
-use Rattle.program.specs.declared.Code.{Code}
-use Rattle.program.specs.declared.Operand.{Operand}
-use Rattle.program.specs.declared.ComputeMode.{ComputeMode}
-use Rattle.program.specs.declared.LoadMode.{LoadMode}
-use Rattle.program.specs.declared.StoreMode.{StoreMode}
-use Rattle.program.specs.declared.FenceMode.{FenceMode}
-use Rattle.program.specs.declared.Instr.{Instr}
-use Rattle.program.specs.declared.Instr.the-variants.{Compute, Load, Store, Branch, Fence}
-use Rattle.program.specs.Program.{instrAt}
+use Rattle.source.specs.declared.Code.{Code}
+use Rattle.source.specs.declared.Operand.{Operand}
+use Rattle.source.specs.declared.ComputeMode.{ComputeMode}
+use Rattle.source.specs.declared.LoadMode.{LoadMode}
+use Rattle.source.specs.declared.StoreMode.{StoreMode}
+use Rattle.source.specs.declared.FenceMode.{FenceMode}
+use Rattle.source.specs.declared.Instr.{Instr}
+use Rattle.source.specs.declared.Instr.the-variants.{Compute, Load, Store, Branch, Fence}
+use Rattle.source.specs.Program.{instrAt}
 use Rattle.machine.specs.declared.Memory.{Memory}
 use Rattle.machine.specs.declared.Thread.{Thread}
 use Rattle.machine.specs.Rules.{address, combine, branchBy}

@@ -14,8 +14,8 @@ use crate::tracked::held;
 use crate::tracked::same_register;
 use machine::Memory;
 use machine::Thread;
-use program::Code;
-use program::Instr;
+use source::Code;
+use source::Instr;
 
 fn no_store() -> StoreSet {
     StoreSet {

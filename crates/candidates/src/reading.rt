@@ -7,7 +7,7 @@ use crate::Values;
 use crate::sets::only;
 use machine::Memory;
 use machine::Message;
-use program::ComputeMode;
+use source::ComputeMode;
 
 // The locations of a sum.
 pub fn summed(x: Values, y: Values) -> Values

@@ -3,9 +3,9 @@ ghost use mathlib.Core.Path.{_≡_};
 ghost use mathlib.Core.Bool.{true};
 ghost use Rattle.candidates.specs.Answers.{Every, In, Wider, Located, Meeting, With, Both, Computed};
 use crate::Values;
-use program::ComputeMode;
 use rules::operands::address;
 use rules::plain::combine;
+use source::ComputeMode;
 
 pub fn every() -> Values
     ensures { λ r. ⌜ Every r ⌝ }

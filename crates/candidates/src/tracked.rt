@@ -8,7 +8,7 @@ use crate::Values;
 use crate::sets::none;
 use crate::sets::only;
 use machine::Thread;
-use program::Operand;
+use source::Operand;
 
 // Each register holds what it holds in the thread.
 pub fn held(s: Thread) -> Registers

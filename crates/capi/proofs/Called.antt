@@ -6,10 +6,10 @@ use Prim.Native.Nat.{ℕ, _+_, _≤_, _<_}
 use native.Mathlib.Nat.{zero-add}
 use lib.ListN.{length, drop}
 use borrow.Author.Tests.{lt-ltb, le-ltb, eq-eqb, ne-eqb}
-use Rattle.program.specs.declared.Program.{Program}
-use Rattle.program.specs.declared.FileRead.{FileRead}
-use Rattle.program.specs.File.{readFile}
-use Rattle.program.specs.Answers.{fileRead}
+use Rattle.source.specs.declared.Program.{Program}
+use Rattle.source.specs.declared.FileRead.{FileRead}
+use Rattle.source.specs.File.{readFile}
+use Rattle.source.specs.Answers.{fileRead}
 use Rattle.machine.specs.declared.Machine.{Machine}
 use Rattle.certify.specs.declared.Certified.{Certified}
 use Rattle.certify.specs.Answers.{certification}

@@ -3,7 +3,7 @@
 use mathlib.Core.Path.{_≡_}
 use native.Mathlib.Omega.{arith}
 use lib.ListN.{length}
-use Rattle.program.specs.declared.FileRead.{FileRead}
+use Rattle.source.specs.declared.FileRead.{FileRead}
 use Rattle.step.specs.declared.Stepped.{Stepped}
 use Rattle.replay.specs.declared.Replayed.{Replayed}
 use Rattle.program_value.proofs.Lengths.{program-length}

@@ -3,9 +3,9 @@
 use mathlib.Core.Bool.{cond}
 use mathlib.Core.List.{List, [], _∷_, _++_}
 use Prim.Native.Nat.{ℕ}
-use Rattle.program.specs.declared.ReadAnswer.{ReadAnswer}
-use Rattle.program.specs.declared.ReadAnswer.the-variants.{Good, Refused}
-use Rattle.program.specs.declared.FileRead.{FileRead}
+use Rattle.source.specs.declared.ReadAnswer.{ReadAnswer}
+use Rattle.source.specs.declared.ReadAnswer.the-variants.{Good, Refused}
+use Rattle.source.specs.declared.FileRead.{FileRead}
 use Rattle.certify.specs.declared.Certified.{Certified}
 use Rattle.certify.specs.declared.Certified.the-variants.{Yes, No, Refused as CertifyRefused}
 use Rattle.certify.specs.Answers.{refusalOf as certifyRefusal}

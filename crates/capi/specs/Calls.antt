@@ -5,8 +5,8 @@ use mathlib.Core.List.{List, _++_}
 use Prim.Native.Nat.{ℕ}
 use lib.Dec.{eqb, ltb}
 use lib.ListN.{length, drop}
-use Rattle.program.specs.File.{readFile}
-use Rattle.program.specs.Answers.{fileRead}
+use Rattle.source.specs.File.{readFile}
+use Rattle.source.specs.Answers.{fileRead}
 use Rattle.certify.specs.Answers.{certification}
 use Rattle.step.specs.Step.{Step, step}
 use Rattle.step.specs.Answers.{stepped}

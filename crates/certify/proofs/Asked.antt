@@ -6,10 +6,10 @@ use Prim.Native.Nat.{ℕ, _≤_, _<_}
 use native.Mathlib.Omega.{arith}
 use lib.Dec.{T}
 use borrow.Author.Tests.{lt-ltb, le-ltb}
-use Rattle.program.specs.Program.{codeOf}
-use Rattle.program.specs.WellFormed.{programTest}
-use Rattle.program.proofs.Tests.{and-left, and-right}
-use Rattle.program.proofs.Formed.{ProgramOk, program-ok}
+use Rattle.source.specs.Program.{codeOf}
+use Rattle.source.specs.WellFormed.{programTest}
+use Rattle.source.proofs.Tests.{and-left, and-right}
+use Rattle.source.proofs.Formed.{ProgramOk, program-ok}
 use Rattle.machine.specs.State.{threadOf}
 use Rattle.machine.specs.WellFormed.{machineTest, Formed}
 use Rattle.machine.proofs.Formed.{MachineOk, machine-iff}

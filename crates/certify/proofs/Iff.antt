@@ -8,9 +8,9 @@ use Prim.Native.Nat.{ℕ, zero, suc, _+_, _≤_, _<_}
 use native.Mathlib.Decide.{ℕ-discrete}
 use native.Mathlib.Omega.{arith}
 use lib.Dec.{T, eqb, ltb, eqb→eq, ltb→lt, lt→ltb}
-use Rattle.program.specs.Program.{instrAt}
-use Rattle.program.proofs.Tests.{or-cases, or-left, or-right, and-left, and-right, and-both, eq→eqb}
-use Rattle.program.proofs.Counts.{there}
+use Rattle.source.specs.Program.{instrAt}
+use Rattle.source.proofs.Tests.{or-cases, or-left, or-right, and-left, and-right, and-both, eq→eqb}
+use Rattle.source.proofs.Counts.{there}
 use Rattle.machine.specs.State.{append}
 use Rattle.machine.specs.Rules.{Executed, refused, next, execute, addPromise}
 use Rattle.machine.proofs.Effects.{effect, moves}

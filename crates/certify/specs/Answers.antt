@@ -5,9 +5,9 @@ use mathlib.Core.Bool.{cond, _&&_}
 use mathlib.Core.Option.{some}
 use Prim.Native.Nat.{ℕ, _^_, _≤_, _<_}
 use lib.Dec.{ltb}
-use Rattle.program.specs.Program.{instrAt, codeOf}
-use Rattle.program.specs.WellFormed.{programTest}
-use Rattle.program.proofs.Formed.{CodeOk}
+use Rattle.source.specs.Program.{instrAt, codeOf}
+use Rattle.source.specs.WellFormed.{programTest}
+use Rattle.source.proofs.Formed.{CodeOk}
 use Rattle.machine.specs.State.{threadOf}
 use Rattle.machine.specs.Rules.{next, execute}
 use Rattle.machine.specs.WellFormed.{machineTest}

@@ -4,7 +4,7 @@ use mathlib.Core.Bool.{Bool, false, _&&_, _||_}
 use mathlib.Core.Option.{Option, none, some}
 use Prim.Native.Nat.{ℕ, zero, suc}
 use lib.Dec.{eqb, ltb}
-use Rattle.program.specs.Program.{instrAt}
+use Rattle.source.specs.Program.{instrAt}
 use Rattle.machine.specs.State.{append}
 use Rattle.machine.specs.Rules.{Executed, refused, next, valueOf, address, execute, addPromise}
 use Rattle.certify.specs.Below.{Code, Instr, Compute, Load, Store, Branch, Fence, Message, Memory, Thread}

@@ -5,7 +5,7 @@ use crate::Certified;
 use crate::certify_within;
 use machine::Machine;
 use machine_form::both_formed;
-use program::Program;
+use source::Program;
 
 pub fn certify(p: Program, x: Machine, i: u8) -> Certified
     ensures { λ r. ⌜ r ≡ certification p x i ⌝ }

@@ -5,7 +5,7 @@ pub use checked::certify;
 ghost use mathlib.Core.Path.{_≡_};
 ghost use mathlib.Core.Option.{some};
 ghost use Prim.Native.Nat.{_+_, _-_, _≤_, _<_};
-ghost use Rattle.program.specs.Program.{instrAt};
+ghost use Rattle.source.specs.Program.{instrAt};
 ghost use Rattle.machine.specs.Rules.{execute};
 ghost use Rattle.machine.specs.Answers.{storeMessage};
 ghost use Rattle.certify.specs.Certify.{anyFrom, messageOf, onward, ownMessage, certify};
@@ -16,13 +16,13 @@ use machine::RuleAnswer;
 use machine::Thread;
 use machine::promises::first;
 use machine::promises::is_empty;
-use program::Code;
-use program::Instr;
-use program::Operand;
 use rules::execute;
 use rules::operands::address;
 use rules::operands::value_of;
 use rules::own_store;
+use source::Code;
+use source::Instr;
+use source::Operand;
 
 // Whether a thread is certified, or the number of the refusal.
 pub enum Certified {

@@ -10,7 +10,7 @@ use native.Mathlib.Omega.{arith}
 use lib.Dec.{eqb, leb, ltb}
 use lib.ListN.{getD}
 use borrow.Author.Tests.{lt-ltb, le-ltb, le-leb, lt-leb}
-use Rattle.program.specs.Tests.{below}
+use Rattle.source.specs.Tests.{below}
 use Rattle.machine.specs.declared.Message.{Message}
 use Rattle.machine.specs.declared.Memory.{Memory}
 use Rattle.machine.specs.State.{noMessage, messageAt}

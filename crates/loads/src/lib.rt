@@ -11,7 +11,7 @@ use machine::answers::done;
 use machine::answers::refused;
 use machine::merge::larger;
 use machine::merge::smaller;
-use program::LoadMode;
+use source::LoadMode;
 
 // The larger of address view and rNew, and for acquire (not weak) also Rel.
 pub fn load_pre(k: LoadMode, va: u8, w: Views) -> u8

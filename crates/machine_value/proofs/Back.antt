@@ -6,7 +6,7 @@ use Prim.Native.Nat.{ℕ, _+_, _*_, _/_, _%_, _≤_}
 use native.Mathlib.Omega.{arith}
 use lib.ListN.{length, getD, drop, length-drop, drop-of-length-le}
 use lib.Seq.{drop-cons, drop-at}
-use Rattle.program.specs.File.{byteAt}
+use Rattle.source.specs.File.{byteAt}
 use Rattle.views.specs.Views.{viewAt}
 use Rattle.machine.specs.State.{noMessage, freshRegister, freshForward, freshThread, threadOf}
 use Rattle.machine.specs.declared.Memory.{Memory}

@@ -6,8 +6,8 @@ use Prim.Native.Nat.{ℕ}
 use native.Mathlib.Decide.{decLt}
 use native.Mathlib.Omega.{arith}
 use lib.ListN.{drop}
-use Rattle.program.specs.declared.Program.{Program}
-use Rattle.program.proofs.Shape.{program-iff}
+use Rattle.source.specs.declared.Program.{Program}
+use Rattle.source.proofs.Shape.{program-iff}
 use Rattle.machine.specs.declared.Machine.{Machine}
 use Rattle.machine.specs.State.{freshThread}
 use Rattle.machine.specs.WellFormed.{Formed}

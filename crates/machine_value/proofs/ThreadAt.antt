@@ -6,7 +6,7 @@ use Prim.Native.Nat.{ℕ, _+_, _*_}
 use native.Mathlib.Omega.{arith}
 use lib.ListN.{drop}
 use lib.Seq.{getD-drop, drop-drop}
-use Rattle.program.specs.File.{byteAt}
+use Rattle.source.specs.File.{byteAt}
 use Rattle.values.specs.Lists.{entries}
 use Rattle.machine_value.specs.Value.{registerFrom, forwardFrom, viewsFrom, threadFrom}
 

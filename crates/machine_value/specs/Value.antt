@@ -6,7 +6,7 @@ use mathlib.Core.List.{List, [], _∷_, _++_}
 use Prim.Native.Nat.{ℕ, _<_}
 use lib.ListN.{length, getD, drop}
 use Rattle.views.specs.Views.{viewAt}
-use Rattle.program.specs.File.{byteAt}
+use Rattle.source.specs.File.{byteAt}
 use Rattle.machine.specs.declared.Message.{Message}
 use Rattle.machine.specs.declared.Memory.{Memory}
 use Rattle.machine.specs.declared.Register.{Register}

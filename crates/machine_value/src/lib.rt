@@ -4,7 +4,7 @@ ghost use mathlib.Core.List.{[], _∷_};
 ghost use Prim.Native.Nat.{_+_, _≤_};
 ghost use lib.ListN.{length, getD, drop};
 ghost use Rattle.views.specs.Views.{viewAt};
-ghost use Rattle.program.specs.File.{byteAt};
+ghost use Rattle.source.specs.File.{byteAt};
 ghost use Rattle.machine.specs.State.{noMessage, freshRegister, freshForward, threadOf};
 ghost use Rattle.values.specs.Lists.{put, joined, entries};
 ghost use Rattle.machine_value.specs.Value.{messageBytes, memoryBytes, registerBytes, forwardBytes, viewsBytes, threadBytes, machineBytes, messageFrom, memoryFrom, registerFrom, forwardFrom, viewsFrom, threadFrom, machineOf};

@@ -6,10 +6,10 @@ use Prim.Native.Nat.{ℕ, _+_, _≤_}
 use native.Mathlib.Omega.{arith}
 use lib.ListN.{length, getD, drop, length-drop, drop-of-length-le}
 use lib.Seq.{drop-cons, drop-drop, drop-append-add, getD-append-add}
-use Rattle.program.specs.Program.{noInstruction, noCode, noCondition, codeOf}
-use Rattle.program.specs.File.{byteAt}
-use Rattle.program.specs.declared.Code.{Code}
-use Rattle.program.specs.declared.Program.{Program}
+use Rattle.source.specs.Program.{noInstruction, noCode, noCondition, codeOf}
+use Rattle.source.specs.File.{byteAt}
+use Rattle.source.specs.declared.Code.{Code}
+use Rattle.source.specs.declared.Program.{Program}
 use Rattle.values.specs.Lists.{joined, entries, AllBytes}
 use Rattle.program_value.specs.Value.{instructionBytes, codeBytes, conditionBytes, programBytes, instructionFrom, codeFrom, conditionFrom, programOf, SizedProgram}
 use Rattle.program_value.proofs.Lengths.{code-length, codes-length}

@@ -4,9 +4,9 @@ use mathlib.Core.Path.{_≡_, refl, ap}
 use Prim.Native.Nat.{suc}
 use native.Mathlib.Omega.{arith}
 use lib.ListN.{length, getD, length-append}
-use Rattle.program.specs.declared.Code.{Code}
-use Rattle.program.specs.declared.Program.{Program}
-use Rattle.program.specs.Program.{noCondition, codeOf}
+use Rattle.source.specs.declared.Code.{Code}
+use Rattle.source.specs.declared.Program.{Program}
+use Rattle.source.specs.Program.{noCondition, codeOf}
 use Rattle.values.specs.Lists.{joined}
 use Rattle.values.proofs.Entries.{joined-length}
 use Rattle.program_value.specs.Value.{codeBytes, conditionBytes, programBytes}

@@ -5,11 +5,11 @@ use mathlib.Core.List.{List}
 use Prim.Native.Nat.{ℕ}
 use lib.Dec.{T}
 use lib.ListN.{length, drop}
-use Rattle.program.specs.declared.Code.{Code}
-use Rattle.program.specs.declared.Program.{Program}
-use Rattle.program.specs.Program.{noCode, codeOf}
-use Rattle.program.specs.WellFormed.{programTest}
-use Rattle.program.proofs.Shape.{program-iff}
+use Rattle.source.specs.declared.Code.{Code}
+use Rattle.source.specs.declared.Program.{Program}
+use Rattle.source.specs.Program.{noCode, codeOf}
+use Rattle.source.specs.WellFormed.{programTest}
+use Rattle.source.proofs.Shape.{program-iff}
 use Rattle.values.proofs.Entries.{entries-length, entries-each}
 use Rattle.program_value.specs.Value.{codeFrom, programOf, SizedProgram}
 

@@ -4,12 +4,12 @@ use mathlib.Core.Path.{_≡_}
 use mathlib.Core.List.{List, [], _∷_, _++_}
 use Prim.Native.Nat.{ℕ, _<_}
 use lib.ListN.{length, getD, drop}
-use Rattle.program.specs.declared.Instruction.{Instruction}
-use Rattle.program.specs.declared.Code.{Code}
-use Rattle.program.specs.declared.Condition.{Condition}
-use Rattle.program.specs.declared.Program.{Program}
-use Rattle.program.specs.Program.{noCondition, instructionAt, codeOf}
-use Rattle.program.specs.File.{byteAt}
+use Rattle.source.specs.declared.Instruction.{Instruction}
+use Rattle.source.specs.declared.Code.{Code}
+use Rattle.source.specs.declared.Condition.{Condition}
+use Rattle.source.specs.declared.Program.{Program}
+use Rattle.source.specs.Program.{noCondition, instructionAt, codeOf}
+use Rattle.source.specs.File.{byteAt}
 use Rattle.values.specs.Lists.{joined, entries}
 
 -- ---- the bytes of a program

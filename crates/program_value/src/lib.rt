@@ -2,13 +2,13 @@
 ghost use mathlib.Core.Path.{_≡_};
 ghost use Prim.Native.Nat.{_+_, _≤_};
 ghost use lib.ListN.{length, getD, drop};
-ghost use Rattle.program.specs.Program.{noCondition, instructionAt, codeOf};
+ghost use Rattle.source.specs.Program.{noCondition, instructionAt, codeOf};
 ghost use Rattle.values.specs.Lists.{put, joined, entries};
 ghost use Rattle.program_value.specs.Value.{instructionBytes, codeBytes, conditionBytes, programBytes, instructionFrom, codeFrom, conditionFrom, programOf};
-use program::Code;
-use program::Condition;
-use program::Instruction;
-use program::Program;
+use source::Code;
+use source::Condition;
+use source::Instruction;
+use source::Program;
 use values::put_one;
 use values::put_two;
 

@@ -4,9 +4,9 @@ use mathlib.Core.Path.{_≡_}
 use mathlib.Core.List.{List}
 use Prim.Native.Nat.{ℕ, zero, suc, _<_}
 use native.Mathlib.Omega.{arith}
-use Rattle.program.specs.declared.Program.{Program}
-use Rattle.program.specs.File.{byteAt}
-use Rattle.program.proofs.Formed.{ProgramOk}
+use Rattle.source.specs.declared.Program.{Program}
+use Rattle.source.specs.File.{byteAt}
+use Rattle.source.proofs.Formed.{ProgramOk}
 use Rattle.machine.specs.declared.Machine.{Machine}
 use Rattle.machine.proofs.Formed.{MachineOk}
 use Rattle.machine.proofs.Effects.{effect-time}

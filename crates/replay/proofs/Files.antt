@@ -4,12 +4,12 @@ use mathlib.Core.Path.{_≡_, sym, ap, ap₂, _∙_}
 use mathlib.Core.List.{List}
 use Prim.Native.Nat.{ℕ}
 use native.Mathlib.Omega.{arith}
-use Rattle.program.specs.declared.FileRead.{FileRead}
-use Rattle.program.specs.declared.ReadAnswer.the-variants.{Good, Refused}
-use Rattle.program.specs.Program.{noProgram}
-use Rattle.program.specs.File.{FileAnswer, refused, program, readFile}
-use Rattle.program.specs.Answers.{fileRead}
-use Rattle.program.proofs.ReadFormed.{read-formed}
+use Rattle.source.specs.declared.FileRead.{FileRead}
+use Rattle.source.specs.declared.ReadAnswer.the-variants.{Good, Refused}
+use Rattle.source.specs.Program.{noProgram}
+use Rattle.source.specs.File.{FileAnswer, refused, program, readFile}
+use Rattle.source.specs.Answers.{fileRead}
+use Rattle.source.proofs.ReadFormed.{read-formed}
 use Rattle.machine.specs.declared.Machine.{Machine}
 use Rattle.machine.specs.State.{fresh}
 use Rattle.machine.specs.WellFormed.{Formed}

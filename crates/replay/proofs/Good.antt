@@ -9,8 +9,8 @@ use native.Mathlib.Omega.{arith}
 use lib.Dec.{eqb}
 use lib.ListN.{length}
 use borrow.Author.Tests.{eqb-true}
-use Rattle.program.specs.declared.Program.{Program}
-use Rattle.program.specs.File.{FileAnswer, program, readFile}
+use Rattle.source.specs.declared.Program.{Program}
+use Rattle.source.specs.File.{FileAnswer, program, readFile}
 use Rattle.machine.specs.declared.Machine.{Machine}
 use Rattle.machine.specs.State.{fresh}
 use Rattle.step.specs.Step.{Step, Outcome, rejected, accepted, step}

@@ -7,7 +7,7 @@ use Prim.Native.Nat.{ℕ, suc, _+_, _-_, _*_}
 use native.Mathlib.Omega.{arith}
 use lib.Dec.{eqb}
 use lib.ListN.{length}
-use Rattle.program.specs.declared.Program.{Program}
+use Rattle.source.specs.declared.Program.{Program}
 use Rattle.machine.specs.declared.Machine.{Machine}
 use Rattle.step.specs.Step.{Outcome, rejected, accepted, step}
 use Rattle.replay.specs.Replay.{Run, ended, broken, marked, onward, replayFrom}

@@ -9,8 +9,8 @@ use lib.Dec.{eqb}
 use lib.ListN.{length, drop, length-drop, drop-of-length-le}
 use lib.Seq.{drop-cons}
 use borrow.Author.Tests.{eq-eqb, ne-eqb}
-use Rattle.program.specs.declared.Program.{Program}
-use Rattle.program.specs.File.{byteAt}
+use Rattle.source.specs.declared.Program.{Program}
+use Rattle.source.specs.File.{byteAt}
 use Rattle.machine.specs.declared.Machine.{Machine}
 use Rattle.machine.specs.WellFormed.{Formed}
 use Rattle.step.specs.declared.TraceStep.{TraceStep}

@@ -3,9 +3,9 @@
 use mathlib.Core.Bool.{false}
 use mathlib.Core.List.{List}
 use Prim.Native.Nat.{ℕ, _+_, _*_}
-use Rattle.program.specs.declared.Program.{Program}
-use Rattle.program.specs.Program.{noProgram}
-use Rattle.program.specs.File.{FileAnswer, refused, program, byteAt, readFile}
+use Rattle.source.specs.declared.Program.{Program}
+use Rattle.source.specs.Program.{noProgram}
+use Rattle.source.specs.File.{FileAnswer, refused, program, byteAt, readFile}
 use Rattle.machine.specs.declared.Machine.{Machine}
 use Rattle.machine.specs.State.{fresh}
 use Rattle.step.specs.Step.{Step}

@@ -4,7 +4,7 @@ use mathlib.Core.Path.{_≡_}
 use mathlib.Core.List.{List, [], _∷_}
 use Prim.Native.Nat.{ℕ}
 use lib.ListN.{length}
-use Rattle.program.specs.declared.Program.{Program}
+use Rattle.source.specs.declared.Program.{Program}
 use Rattle.machine.specs.declared.Machine.{Machine}
 use Rattle.step.specs.Step.{Step, accepted, step}
 use Rattle.step.specs.Trace.{traceBytes}

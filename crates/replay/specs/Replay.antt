@@ -4,7 +4,7 @@ use mathlib.Core.Bool.{Bool, true, false, _&&_}
 use mathlib.Core.List.{List, [], _∷_}
 use Prim.Native.Nat.{ℕ, suc}
 use lib.Dec.{eqb}
-use Rattle.program.specs.declared.Program.{Program}
+use Rattle.source.specs.declared.Program.{Program}
 use Rattle.machine.specs.declared.Machine.{Machine}
 use Rattle.step.specs.Step.{Outcome, rejected, accepted, step}
 

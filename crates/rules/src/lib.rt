@@ -20,9 +20,9 @@ use machine::Ruled;
 use machine::Thread;
 use machine::answers::done;
 use machine::answers::refused;
-use program::Instr;
-use program::Operand;
-use program::StoreMode;
+use source::Instr;
+use source::Operand;
+use source::StoreMode;
 use stores::own_at;
 use stores::store_at;
 

@@ -7,11 +7,11 @@ use mathlib.Core.List.{List, [], _∷_, _++_, map}
 use Prim.Native.Nat.{ℕ, suc, min, _+_, _*_, _/_, _%_, _≤_, _<_}
 use native.Mathlib.Omega.{arith}
 use lib.Dec.{T, eqb, ltb, eqb→eq, ltb→lt, lt→ltb}
-use Rattle.program.specs.declared.Program.{Program}
-use Rattle.program.specs.Program.{codeOf}
-use Rattle.program.specs.Counts.{size}
-use Rattle.program.proofs.Tests.{or-cases, and-left, and-right, and-both}
-use Rattle.program.proofs.Formed.{ProgramOk}
+use Rattle.source.specs.declared.Program.{Program}
+use Rattle.source.specs.Program.{codeOf}
+use Rattle.source.specs.Counts.{size}
+use Rattle.source.proofs.Tests.{or-cases, and-left, and-right, and-both}
+use Rattle.source.proofs.Formed.{ProgramOk}
 use Rattle.machine.specs.declared.Machine.{Machine}
 use Rattle.machine.specs.State.{fresh, threadOf}
 use Rattle.machine.proofs.Effects.{effect-time}

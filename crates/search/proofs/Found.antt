@@ -7,8 +7,8 @@ use mathlib.Core.Option.{Option, none, some}
 use Prim.Native.Nat.{ℕ}
 use native.Mathlib.Omega.{arith}
 use lib.ListN.{length}
-use Rattle.program.specs.declared.Program.{Program}
-use Rattle.program.specs.File.{program, readFile}
+use Rattle.source.specs.declared.Program.{Program}
+use Rattle.source.specs.File.{program, readFile}
 use Rattle.machine.specs.declared.Machine.{Machine}
 use Rattle.machine.specs.State.{fresh}
 use Rattle.sequences.specs.Sequences.{run, wanted}

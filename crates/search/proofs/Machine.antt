@@ -4,10 +4,10 @@ use mathlib.Core.Path.{_≡_}
 use mathlib.Core.Option.{some}
 use Prim.Native.Nat.{ℕ}
 use native.Mathlib.Omega.{arith}
-use Rattle.program.specs.declared.Program.{Program}
+use Rattle.source.specs.declared.Program.{Program}
 use Rattle.machine.specs.declared.Machine.{Machine}
 use Rattle.machine.proofs.Effects.{effect-time}
-use Rattle.program.proofs.Formed.{ProgramOk}
+use Rattle.source.proofs.Formed.{ProgramOk}
 use Rattle.machine.proofs.Formed.{MachineOk}
 use Rattle.sequences.specs.Sequences.{Among}
 use Rattle.sequences.specs.Lawful.{Lawful}

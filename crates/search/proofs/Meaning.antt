@@ -6,8 +6,8 @@ use mathlib.Core.Option.{some}
 use Prim.Native.Nat.{ℕ, _≤_}
 use native.Mathlib.Omega.{arith}
 use lib.ListN.{length}
-use Rattle.program.specs.declared.Program.{Program}
-use Rattle.program.specs.Counts.{size}
+use Rattle.source.specs.declared.Program.{Program}
+use Rattle.source.specs.Counts.{size}
 use Rattle.machine.specs.declared.Machine.{Machine}
 use Rattle.machine.specs.State.{fresh}
 use Rattle.sequences.specs.Sequences.{Accepted, Listed, run, wanted}

@@ -2,8 +2,8 @@
 -- Assumes nothing.
 use mathlib.Core.Path.{_≡_}
 use native.Mathlib.Omega.{arith}
-use Rattle.program.specs.declared.Program.{Program}
-use Rattle.program.specs.Program.{codeOf}
+use Rattle.source.specs.declared.Program.{Program}
+use Rattle.source.specs.Program.{codeOf}
 use Rattle.machine.specs.declared.Machine.{Machine}
 use Rattle.machine.specs.State.{threadOf}
 use Rattle.machine.proofs.Formed.{MachineOk}

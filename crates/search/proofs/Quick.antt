@@ -5,10 +5,10 @@ use mathlib.Core.Bool.{_&&_}
 use mathlib.Core.Option.{Option}
 use Prim.Native.Nat.{ℕ}
 use lib.Dec.{T}
-use Rattle.program.specs.declared.Program.{Program}
-use Rattle.program.specs.Counts.{size}
-use Rattle.program.specs.WellFormed.{programTest}
-use Rattle.program.proofs.Tests.{and-both}
+use Rattle.source.specs.declared.Program.{Program}
+use Rattle.source.specs.Counts.{size}
+use Rattle.source.specs.WellFormed.{programTest}
+use Rattle.source.proofs.Tests.{and-both}
 use Rattle.machine.specs.declared.Machine.{Machine}
 use Rattle.machine.specs.State.{fresh}
 use Rattle.machine.specs.WellFormed.{machineTest}

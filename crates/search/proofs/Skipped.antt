@@ -9,18 +9,18 @@ use native.Mathlib.Omega.{arith}
 use lib.Count.{ones}
 use lib.Dec.{ltb, eqb, ltb→lt}
 use borrow.Author.Tests.{le-ltb}
-use Rattle.program.specs.declared.Program.{Program}
-use Rattle.program.specs.declared.Instr.{Instr}
-use Rattle.program.specs.Program.{instrAt, codeOf}
-use Rattle.program.specs.Counts.{storesFrom}
-use Rattle.program.specs.WellFormed.{programTest}
+use Rattle.source.specs.declared.Program.{Program}
+use Rattle.source.specs.declared.Instr.{Instr}
+use Rattle.source.specs.Program.{instrAt, codeOf}
+use Rattle.source.specs.Counts.{storesFrom}
+use Rattle.source.specs.WellFormed.{programTest}
 use Rattle.machine.specs.declared.Machine.{Machine}
 use Rattle.machine.specs.declared.Thread.{Thread}
 use Rattle.machine.specs.State.{threadOf}
 use Rattle.machine.specs.Rules.{Executed, refused, next, execute}
 use Rattle.machine.specs.WellFormed.{machineTest}
 use Rattle.machine.proofs.Formed.{MachineOk}
-use Rattle.program.proofs.Formed.{ProgramOk}
+use Rattle.source.proofs.Formed.{ProgramOk}
 use Rattle.certify.proofs.Fit.{promises-fit}
 use Rattle.candidates.specs.declared.Possible.{Possible}
 use Rattle.candidates.specs.Answers.{Covers, Possibly}

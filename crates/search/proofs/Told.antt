@@ -8,18 +8,18 @@ use native.Mathlib.Omega.{arith}
 use lib.Dec.{T}
 use lib.ListN.{length, drop}
 use borrow.Author.Tests.{lt-ltb, le-ltb}
-use Rattle.program.specs.declared.FileRead.{FileRead}
-use Rattle.program.specs.declared.Program.{Program}
-use Rattle.program.specs.declared.ReadAnswer.the-variants as reading
-use Rattle.program.specs.Program.{codeOf}
-use Rattle.program.specs.Tests.{sumBelow}
-use Rattle.program.specs.Counts.{stores, instructions, size}
-use Rattle.program.specs.File.{FileAnswer, readFile}
-use Rattle.program.specs.Answers.{fileRead}
-use Rattle.program.specs.WellFormed.{programTest}
-use Rattle.program.proofs.Counts.{sum-le}
-use Rattle.program.proofs.Formed.{ProgramOk, program-ok}
-use Rattle.program.proofs.ReadFormed.{read-formed}
+use Rattle.source.specs.declared.FileRead.{FileRead}
+use Rattle.source.specs.declared.Program.{Program}
+use Rattle.source.specs.declared.ReadAnswer.the-variants as reading
+use Rattle.source.specs.Program.{codeOf}
+use Rattle.source.specs.Tests.{sumBelow}
+use Rattle.source.specs.Counts.{stores, instructions, size}
+use Rattle.source.specs.File.{FileAnswer, readFile}
+use Rattle.source.specs.Answers.{fileRead}
+use Rattle.source.specs.WellFormed.{programTest}
+use Rattle.source.proofs.Counts.{sum-le}
+use Rattle.source.proofs.Formed.{ProgramOk, program-ok}
+use Rattle.source.proofs.ReadFormed.{read-formed}
 use Rattle.machine.specs.State.{fresh}
 use Rattle.sequences.specs.Sequences.{upto, wanted}
 use Rattle.sequences.specs.Answer as sequences

@@ -7,13 +7,13 @@ use Prim.Native.Nat.{ℕ, suc, _+_, _-_, _*_, _≤_, _<_}
 use native.Mathlib.Omega.{arith}
 use lib.Dec.{ltb}
 use lib.ListN.{length, take, set, take-append-drop}
-use Rattle.program.specs.declared.Code.{Code}
-use Rattle.program.specs.declared.Program.{Program}
+use Rattle.source.specs.declared.Code.{Code}
+use Rattle.source.specs.declared.Program.{Program}
 use Rattle.machine.specs.declared.Memory.{Memory}
 use Rattle.machine.specs.declared.Thread.{Thread}
 use Rattle.machine.specs.declared.Machine.{Machine}
 use Rattle.machine.specs.State.{threadOf}
-use Rattle.program.specs.Program.{codeOf}
+use Rattle.source.specs.Program.{codeOf}
 use Rattle.certify.specs.Answers as certified
 use Rattle.certify.proofs.Asked.{of-four, ready-here}
 use Rattle.sequences.proofs.Scan.{Scan, going, found, out, andThen, under, visited, found-short}

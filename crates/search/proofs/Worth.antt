@@ -9,12 +9,12 @@ use native.Mathlib.Omega.{arith}
 use lib.Count.{ones}
 use lib.Dec.{eqb}
 use borrow.Author.Tests.{lt-ltb, le-ltb}
-use Rattle.program.specs.declared.Code.{Code}
-use Rattle.program.specs.declared.Instruction.{Instruction}
-use Rattle.program.specs.declared.Instr.{Instr}
-use Rattle.program.specs.declared.Program.{Program}
-use Rattle.program.specs.Program.{instructionAt, instrAt, codeOf}
-use Rattle.program.specs.Counts.{oneStore, storesAmong, storesFrom}
+use Rattle.source.specs.declared.Code.{Code}
+use Rattle.source.specs.declared.Instruction.{Instruction}
+use Rattle.source.specs.declared.Instr.{Instr}
+use Rattle.source.specs.declared.Program.{Program}
+use Rattle.source.specs.Program.{instructionAt, instrAt, codeOf}
+use Rattle.source.specs.Counts.{oneStore, storesAmong, storesFrom}
 use Rattle.machine.specs.declared.Memory.{Memory}
 use Rattle.machine.specs.declared.Thread.{Thread}
 use Rattle.machine.specs.declared.Machine.{Machine}

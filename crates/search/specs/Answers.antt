@@ -6,8 +6,8 @@ use mathlib.Core.List.{List, _++_}
 use Prim.Native.Nat.{ℕ, _*_}
 use lib.Dec.{ltb}
 use lib.ListN.{length, drop}
-use Rattle.program.specs.declared.Program.{Program}
-use Rattle.program.specs.File.{FileAnswer, refused, program, readFile}
+use Rattle.source.specs.declared.Program.{Program}
+use Rattle.source.specs.File.{FileAnswer, refused, program, readFile}
 use Rattle.step.specs.Step.{Step}
 use Rattle.step.specs.Trace.{traceBytes}
 use Rattle.sequences.specs.Answer as sequences

@@ -2,8 +2,8 @@
 -- Assumes nothing.
 use mathlib.Core.List.{List}
 use Prim.Native.Nat.{ℕ}
-use Rattle.program.specs.declared.Program.{Program}
-use Rattle.program.specs.Counts.{size}
+use Rattle.source.specs.declared.Program.{Program}
+use Rattle.source.specs.Counts.{size}
 use Rattle.machine.specs.declared.Machine.{Machine}
 use Rattle.machine.specs.State.{fresh}
 use Rattle.step.specs.Step.{Step, step, taken}

@@ -7,8 +7,8 @@ use mathlib.Core.Option.{none}
 use Prim.Native.Nat.{ℕ, _+_, _-_, _*_, _/_, _%_, _≤_, _<_}
 use lib.Dec.{ltb}
 use lib.ListN.{length, take, drop}
-use Rattle.program.specs.declared.Code.{Code}
-use Rattle.program.specs.declared.Program.{Program}
+use Rattle.source.specs.declared.Code.{Code}
+use Rattle.source.specs.declared.Program.{Program}
 use Rattle.machine.specs.declared.Memory.{Memory}
 use Rattle.machine.specs.declared.Thread.{Thread}
 use Rattle.machine.specs.declared.Machine.{Machine}

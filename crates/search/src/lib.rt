@@ -6,12 +6,12 @@ ghost use mathlib.Core.Path.{_≡_};
 ghost use Prim.Native.Nat.{_≤_};
 ghost use lib.Dec.{T};
 ghost use lib.ListN.{length};
-ghost use Rattle.program.specs.WellFormed.{programTest};
+ghost use Rattle.source.specs.WellFormed.{programTest};
 ghost use Rattle.search.specs.Answers.{refusal, Answers, Searched};
 use machine::machines::fresh;
-use program::Program;
 use program::ReadAnswer;
 use program::read;
+use source::Program;
 use visits::visit;
 
 // How far a visit has come: on, with so much of the budget left; at a wanted sequence of so many steps, with so much left; or

@@ -2,7 +2,7 @@
 // location l with value v as 17 + 256 · l + v.
 ghost use mathlib.Core.Path.{_≡_};
 ghost use Prim.Native.Nat.{_≤_, _<_};
-ghost use Rattle.program.specs.Counts.{storesFrom};
+ghost use Rattle.source.specs.Counts.{storesFrom};
 ghost use Rattle.certify.specs.Answers.{Ready};
 ghost use Rattle.search.specs.Visits.{keyPromise, stepAt, Next};
 use candidates::least::next_store;
@@ -11,7 +11,7 @@ use certify::worth_trying;
 use machine::Memory;
 use machine::Thread;
 use machine::merge::larger;
-use program::Code;
+use source::Code;
 use step::TraceStep;
 
 pub fn step_at(i: u8, k: u16) -> TraceStep

@@ -8,7 +8,7 @@ use crate::Ran;
 use crate::tries::next_try;
 use crate::tries::step_at;
 use machine::Machine;
-use program::Program;
+use source::Program;
 use step::StepAnswer;
 use step::TraceStep;
 use step::outcome::asked;

@@ -6,8 +6,8 @@ use Prim.Native.Nat.{ℕ, _<_}
 use native.Mathlib.Omega.{arith}
 use lib.ListN.{set}
 use borrow.Author.Tests.{lt-ltb}
-use Rattle.program.specs.WellFormed.{programTest}
-use Rattle.program.proofs.Tests.{and-both, is-true}
+use Rattle.source.specs.WellFormed.{programTest}
+use Rattle.source.proofs.Tests.{and-both, is-true}
 use Rattle.machine.specs.WellFormed.{machineTest, Formed}
 use Rattle.step.specs.Below.{Code, Program, Memory, Thread, Machine}
 use Rattle.step.specs.Step.{Step, Outcome, rejected, accepted, ruleStep, step}

@@ -7,9 +7,9 @@ use Prim.Native.Nat.{ℕ, zero, suc, _<_}
 use native.Mathlib.Omega.{arith}
 use lib.Dec.{T, eqb, leb, ltb, eqb→eq, leb→le, ltb→lt}
 use lib.ListN.{set}
-use Rattle.program.specs.Program.{instrAt, codeOf}
-use Rattle.program.specs.WellFormed.{programTest}
-use Rattle.program.proofs.Tests.{and-left, and-right}
+use Rattle.source.specs.Program.{instrAt, codeOf}
+use Rattle.source.specs.WellFormed.{programTest}
+use Rattle.source.proofs.Tests.{and-left, and-right}
 use Rattle.machine.specs.State.{threadOf, append}
 use Rattle.machine.specs.Rules.{Executed, refused, next, execute, addPromise}
 use Rattle.machine.specs.WellFormed.{machineTest}

@@ -7,10 +7,10 @@ use native.Mathlib.Omega.{arith}
 use lib.Dec.{T, eqb, ltb, ltb→lt}
 use lib.ListN.{getD}
 use borrow.Author.Tests.{eq-eqb, ne-eqb}
-use Rattle.program.specs.Program.{noCondition, codeOf}
-use Rattle.program.specs.WellFormed.{conditionTest}
-use Rattle.program.proofs.Tests.{all-at}
-use Rattle.program.proofs.Shape.{program-iff}
+use Rattle.source.specs.Program.{noCondition, codeOf}
+use Rattle.source.specs.WellFormed.{conditionTest}
+use Rattle.source.proofs.Tests.{all-at}
+use Rattle.source.proofs.Shape.{program-iff}
 use Rattle.machine.specs.State.{freshRegister, threadOf, messageAt}
 use Rattle.machine.specs.WellFormed.{Formed}
 use Rattle.step.specs.Below.{Code, Condition, Program, Message, Memory, Register, Thread, Machine}

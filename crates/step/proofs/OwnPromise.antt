@@ -11,10 +11,10 @@ use lib.ListN.{length, getD}
 use Rattle.views.specs.Views.{viewAt, raiseAt}
 use Rattle.views.proofs.Entries.{set-all, replicate-all}
 use Rattle.views.proofs.Merging.{raise-reaches}
-use Rattle.program.specs.Program.{instrAt, codeOf}
-use Rattle.program.specs.WellFormed.{programTest}
-use Rattle.program.proofs.Tests.{or-cases, and-left, and-right, and-both}
-use Rattle.program.proofs.Formed.{program-ok}
+use Rattle.source.specs.Program.{instrAt, codeOf}
+use Rattle.source.specs.WellFormed.{programTest}
+use Rattle.source.proofs.Tests.{or-cases, and-left, and-right, and-both}
+use Rattle.source.proofs.Formed.{program-ok}
 use Rattle.machine.specs.State.{freshForward, freshThread, fresh, threadOf, messageAt, has}
 use Rattle.machine.specs.Rules.{Executed, next, test, viewOf₂, readable, noneNewer, readView, loadDone, loadAt, execute}
 use Rattle.machine.specs.WellFormed.{machineTest}

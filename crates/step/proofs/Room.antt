@@ -7,13 +7,13 @@ use Prim.Native.Nat.{ℕ, suc, _+_, _≤_, _<_}
 use native.Mathlib.Decide.{ℕ-discrete}
 use native.Mathlib.Omega.{arith}
 use lib.Dec.{T, eqb, leb, ltb, ltb→lt, not-T, nltb→le}
-use Rattle.program.specs.Tests.{sumBelow}
-use Rattle.program.specs.Program.{instrAt, codeOf}
-use Rattle.program.specs.Counts.{storesFrom, stores}
-use Rattle.program.specs.WellFormed.{programTest}
-use Rattle.program.proofs.Tests.{and-left}
-use Rattle.program.proofs.Counts.{sum-same, sum-one}
-use Rattle.program.proofs.Formed.{ProgramOk, program-ok}
+use Rattle.source.specs.Tests.{sumBelow}
+use Rattle.source.specs.Program.{instrAt, codeOf}
+use Rattle.source.specs.Counts.{storesFrom, stores}
+use Rattle.source.specs.WellFormed.{programTest}
+use Rattle.source.proofs.Tests.{and-left}
+use Rattle.source.proofs.Counts.{sum-same, sum-one}
+use Rattle.source.proofs.Formed.{ProgramOk, program-ok}
 use Rattle.machine.specs.State.{freshThread, fresh, threadOf}
 use Rattle.machine.specs.WellFormed.{machineTest}
 use Rattle.machine.proofs.Sets.{ones-none}

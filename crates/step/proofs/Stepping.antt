@@ -7,8 +7,8 @@ use Prim.Native.Nat.{ℕ, zero, suc, _+_, _-_, _^_, _≤_, _<_}
 use native.Mathlib.Omega.{arith}
 use lib.ListN.{set}
 use borrow.Author.Tests.{lt-ltb, le-ltb, le-leb, lt-leb, eq-eqb, ne-eqb}
-use Rattle.program.specs.Program.{instrAt, codeOf}
-use Rattle.program.specs.WellFormed.{programTest}
+use Rattle.source.specs.Program.{instrAt, codeOf}
+use Rattle.source.specs.WellFormed.{programTest}
 use Rattle.machine.specs.State.{threadOf, append}
 use Rattle.machine.specs.Rules.{execute, addPromise}
 use Rattle.machine.specs.WellFormed.{machineTest, Formed}

@@ -3,7 +3,7 @@
 use mathlib.Core.Path.{_≡_}
 use Prim.Native.Nat.{ℕ}
 use lib.ListN.{set}
-use Rattle.program.specs.Program.{codeOf}
+use Rattle.source.specs.Program.{codeOf}
 use Rattle.machine.specs.State.{threadOf}
 use Rattle.step.specs.Below.{Code, Program, Memory, Thread, Machine}
 use Rattle.step.specs.Step.{Step, Outcome, rejected, accepted, settle, executeStep, promiseStep, kindStep}

@@ -5,8 +5,8 @@ use mathlib.Core.Option.{Option, none, some}
 use Prim.Native.Nat.{ℕ, zero, suc}
 use lib.Dec.{eqb, leb, ltb}
 use lib.ListN.{set}
-use Rattle.program.specs.Program.{instrAt, codeOf}
-use Rattle.program.specs.WellFormed.{programTest}
+use Rattle.source.specs.Program.{instrAt, codeOf}
+use Rattle.source.specs.WellFormed.{programTest}
 use Rattle.machine.specs.State.{threadOf, append}
 use Rattle.machine.specs.Rules.{Executed, refused, next, execute, addPromise}
 use Rattle.machine.specs.WellFormed.{machineTest}

@@ -15,9 +15,9 @@ use machine::Message;
 use machine::RuleAnswer;
 use machine::Thread;
 use machine::promises::with;
-use program::Code;
-use program::Program;
 use rules::execute;
+use source::Code;
+use source::Program;
 
 // As a trace has it: kind 0 executes at time a, b = 0; kind 1 promises location a, value b.
 pub struct TraceStep {

@@ -5,8 +5,8 @@ ghost use Rattle.machine.specs.WellFormed.{Formed};
 ghost use Rattle.step.specs.Outcome.{complete, lastValue, holds, questionHolds, asked};
 use machine::Machine;
 use machine::Memory;
-use program::Condition;
-use program::Program;
+use source::Condition;
+use source::Program;
 
 // Every thread is at its end with no promise left.
 pub fn complete(p: Program, x: Machine) -> bool

@@ -3,7 +3,7 @@ use machine::Memory;
 use machine::Message;
 use machine::Thread;
 use machine::Views;
-use program::Program;
+use source::Program;
 
 // n: so many equal messages, where there is room; the count is as asked, also above 16.
 pub fn equal_messages(m: Memory, count: u8, w: Message) -> Memory {

@@ -14,7 +14,7 @@ use machine::answers::refused;
 use machine::merge::larger;
 use machine::promises::has;
 use machine::promises::without;
-use program::StoreMode;
+use source::StoreMode;
 
 // The largest of address view, data view, wNew and CAP, and for release also rOld and wOld.
 fn store_pre(k: StoreMode, va: u8, vd: u8, w: Views) -> u8

@@ -4,10 +4,10 @@ use mathlib.Core.Path.{_≡_, refl, sym, ap₂, _∙_}
 use mathlib.Core.Bool.{Bool, true, _&&_}
 use mathlib.Core.List.{List, [], _∷_, map}
 use lib.Dec.{T}
-use Rattle.program.specs.Tests.{allOf, below, sumBelow}
-use Rattle.program.specs.Program.{operand, computeMode, loadMode, storeMode, fenceMode, decode, instrAt, codeOf}
-use Rattle.program.specs.Counts.{oneStore, storesAmong, storesFrom, stores, instructions, size}
-use Rattle.program.specs.WellFormed.{modeLimit, modeTest, registerTest, kindTest, numberTest, instructionTest, conditionTest, unusedInstruction, unusedCondition, codeTest, programTest}
+use Rattle.source.specs.Tests.{allOf, below, sumBelow}
+use Rattle.source.specs.Program.{operand, computeMode, loadMode, storeMode, fenceMode, decode, instrAt, codeOf}
+use Rattle.source.specs.Counts.{oneStore, storesAmong, storesFrom, stores, instructions, size}
+use Rattle.source.specs.WellFormed.{modeLimit, modeTest, registerTest, kindTest, numberTest, instructionTest, conditionTest, unusedInstruction, unusedCondition, codeTest, programTest}
 use Rattle.machine.specs.State.{freshThread, fresh, has, with, without}
 use Rattle.machine.specs.Rules.{combine, readable, noneNewer, readValue, loadAt, promised, storeAt, execute}
 use Rattle.certify.specs.Certify.{anyFrom, ownMessage, oneMore, certify, certified}
@@ -19,7 +19,7 @@ use Rattle.sequences.proofs.Fewer.{each, hunt}
 use Rattle.search.proofs.Keys.{insertKey}
 use Rattle.search.proofs.Few.{keysOf, fewOf, few}
 use Rattle.search.proofs.Quick.{quick, quick-is}
-use Rattle.program.proofs.Tests.{and-left, and-right}
+use Rattle.source.proofs.Tests.{and-left, and-right}
 use Rattle.sequences.specs.Answer.{Answer}
 use Rattle.search.specs.Search.{answerTo}
 use Rattle.verdicts.specs.Cases.{Case, Right}

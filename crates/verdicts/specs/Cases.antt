@@ -3,8 +3,8 @@
 use mathlib.Core.Path.{_≡_}
 use mathlib.Core.List.{List, [], _∷_, map}
 use Prim.Native.Nat.{ℕ}
-use Rattle.program.specs.declared.Instruction.{Instruction}
-use Rattle.program.specs.declared.Program.{Program}
+use Rattle.source.specs.declared.Instruction.{Instruction}
+use Rattle.source.specs.declared.Program.{Program}
 use Rattle.step.specs.Step.{Step}
 use Rattle.step.specs.Order.{execution, promise}
 use Rattle.sequences.specs.Answer.{Answer, allowed, forbidden, unfinished}

@@ -3,11 +3,11 @@
 use mathlib.Core.List.{List, _++_, map}
 use Prim.Native.Nat.{ℕ, _-_}
 use lib.ListN.{length, replicate}
-use Rattle.program.specs.declared.Instruction.{Instruction}
-use Rattle.program.specs.declared.Code.{Code}
-use Rattle.program.specs.declared.Condition.{Condition}
-use Rattle.program.specs.declared.Program.{Program}
-use Rattle.program.specs.Program.{noInstruction, noCode, noCondition}
+use Rattle.source.specs.declared.Instruction.{Instruction}
+use Rattle.source.specs.declared.Code.{Code}
+use Rattle.source.specs.declared.Condition.{Condition}
+use Rattle.source.specs.declared.Program.{Program}
+use Rattle.source.specs.Program.{noInstruction, noCode, noCondition}
 
 -- ---- operands, as (k, n)
 abbrev pub con : ℕ → ℕ × ℕ

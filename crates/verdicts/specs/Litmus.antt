@@ -1,8 +1,8 @@
 -- Litmus tests with known verdicts, with the place of the sequence that shows an outcome, or the number of all sequences. Locations x = 0, y = 1, z = 2.
 -- Assumes nothing.
 use mathlib.Core.List.{List, [], _∷_, _++_}
-use Rattle.program.specs.declared.Instruction.{Instruction}
-use Rattle.program.specs.declared.Condition.{Condition}
+use Rattle.source.specs.declared.Instruction.{Instruction}
+use Rattle.source.specs.declared.Condition.{Condition}
 use Rattle.step.specs.Step.{Step}
 use Rattle.step.specs.Order.{execution, promise}
 use Rattle.sequences.specs.Answer.{allowed, forbidden}

@@ -25,7 +25,7 @@ use Rattle.certify.proofs.own_message.Reads as own-message-reads
 use Rattle.machine.proofs.promises.is_empty.Reads as is-empty-reads
 use Rattle.rules.proofs.execute.Reads as execute-reads
 use Rattle.rules.proofs.own_store.Reads as own-store-reads
-use Rattle.program.proofs.Code.instr_at.Reads as instr-at-reads
+use Rattle.source.proofs.Code.instr_at.Reads as instr-at-reads
 use Rattle.certify.proofs.+certify_within+try_own+try_times.{statement}
 use Rattle.certify.proofs.+certify_within+try_own+try_times.Tie.{close}
 

@@ -5,7 +5,7 @@ use Prim.Native.Nat.{_+_, _-_}
 use native.Mathlib.Nat.{add-zero}
 use native.Mathlib.Omega.{arith}
 use lib.Seq.{getD-drop}
-use Rattle.program.specs.File.{byteAt}
+use Rattle.source.specs.File.{byteAt}
 use Rattle.values.proofs.Filling.{Filling, filling-one, filling-more, filling-all}
 use Rattle.machine_value.proofs.coherence_from.Statement.{statement}
 use Rattle.machine_value.proofs.coherence_from.Tie as tie

@@ -11,7 +11,7 @@ use Rattle.pace.proofs.first_possible.Reads as first-possible-reads
 use Rattle.pace.proofs.report.Reads as report-reads
 use Rattle.pace.proofs.used.Reads as used-reads
 use Rattle.pace.proofs.with_value.Reads as with-value-reads
-use Rattle.program.proofs.Program.code_of.Reads as code-of-reads
+use Rattle.source.proofs.Program.code_of.Reads as code-of-reads
 use Rattle.std.proofs.num.wrapping_add_u64.Reads as wrapping-add-u64-reads
 
 abbrev Inv-loop : tie.InvT-loop

@@ -3,7 +3,7 @@
 use mathlib.Core.Path.{refl}
 use Prim.Native.Nat.{_+_, _-_, _*_}
 use native.Mathlib.Omega.{arith}
-use Rattle.program.specs.Program.{codeOf}
+use Rattle.source.specs.Program.{codeOf}
 use Rattle.values.proofs.Putting.{Putting, putting-none, putting-more, putting-all}
 use Rattle.program_value.specs.Value.{codeBytes}
 use Rattle.program_value.proofs.Lengths.{code-length}

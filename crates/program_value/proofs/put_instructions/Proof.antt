@@ -3,7 +3,7 @@
 use mathlib.Core.Path.{refl}
 use Prim.Native.Nat.{_+_, _-_, _*_}
 use native.Mathlib.Omega.{arith}
-use Rattle.program.specs.Program.{instructionAt}
+use Rattle.source.specs.Program.{instructionAt}
 use Rattle.values.proofs.Putting.{Putting, putting-none, putting-more, putting-all}
 use Rattle.program_value.specs.Value.{instructionBytes}
 use Rattle.program_value.proofs.put_instructions.Statement.{statement}

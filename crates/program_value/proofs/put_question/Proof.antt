@@ -4,7 +4,7 @@ use mathlib.Core.Path.{refl}
 use Prim.Native.Nat.{_+_, _-_, _*_}
 use native.Mathlib.Omega.{arith}
 use lib.ListN.{getD}
-use Rattle.program.specs.Program.{noCondition}
+use Rattle.source.specs.Program.{noCondition}
 use Rattle.values.proofs.Putting.{Putting, putting-none, putting-more, putting-all}
 use Rattle.program_value.specs.Value.{conditionBytes}
 use Rattle.program_value.proofs.put_question.Statement.{statement}

@@ -7,7 +7,7 @@ use Rattle.step.proofs.execute_step.Tie as tie
 use Rattle.step.proofs.execute_step.Reads as reads
 use Rattle.step.proofs.execute_step.Lts as lts
 use Rattle.rules.proofs.execute.Reads as execute-reads
-use Rattle.program.proofs.Code.instr_at.Reads as instr-at-reads
+use Rattle.source.proofs.Code.instr_at.Reads as instr-at-reads
 use Rattle.step.proofs.settle.Reads as settle-reads
 use Rattle.step.proofs.stays.Reads as stays-reads
 

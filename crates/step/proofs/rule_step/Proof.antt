@@ -11,7 +11,7 @@ use Rattle.step.proofs.rule_step.Reads as reads
 use Rattle.step.proofs.rule_step.Lts as lts
 use Rattle.machine.proofs.Machine.moved.Reads as moved-reads
 use Rattle.machine.proofs.Machine.thread_of.Reads as thread-of-reads
-use Rattle.program.proofs.Program.code_of.Reads as code-of-reads
+use Rattle.source.proofs.Program.code_of.Reads as code-of-reads
 use Rattle.step.proofs.refused.Reads as refused-reads
 use Rattle.step.proofs.thread_step.Reads as thread-step-reads
 

@@ -2,7 +2,7 @@
 -- Assumes nothing.
 use mathlib.Core.Path.{_≡_}
 use lib.ListN.{length}
-use Rattle.program.proofs.Arrays.{length-mapped}
+use Rattle.source.proofs.Arrays.{length-mapped}
 use borrow.Author.Needs.{needs}
 use Rattle.candidates.proofs.Holding.{put-in, put-out}
 use borrow.Author.Needs.{needs}

@@ -4,7 +4,7 @@ use mathlib.Core.Path.{_≡_, refl}
 use Prim.Native.Nat.{_-_}
 use native.Mathlib.Omega.{arith}
 use lib.ListN.{length}
-use Rattle.program.proofs.Arrays.{length-mapped}
+use Rattle.source.proofs.Arrays.{length-mapped}
 use Rattle.candidates.proofs.Holding.{HeldUpTo, held-more, held-all}
 use Rattle.candidates.proofs.tracked.held.Statement.{statement}
 use Rattle.candidates.proofs.tracked.held.Tie as tie

@@ -9,7 +9,7 @@ use Rattle.search.proofs.tries.next_try.Reads as reads
 use Rattle.search.proofs.tries.next_try.Lts as lts
 use Rattle.certify.proofs.worth_trying.Reads as worth-trying-reads
 use Rattle.machine.proofs.merge.larger.Reads as larger-reads
-use Rattle.program.proofs.Code.instr_at.Reads as instr-at-reads
+use Rattle.source.proofs.Code.instr_at.Reads as instr-at-reads
 use Rattle.search.proofs.tries.next_promise.Reads as next-promise-reads
 
 -- src/tries.rt:69:16

@@ -1,7 +1,7 @@
 -- `search::tries::stores_from` meets its contract.
 -- Assumes nothing.
 use Rattle.search.proofs.Worth.{one-at-most, counted-more, counted-all}
-use Rattle.program.specs.Counts.{storesFrom}
+use Rattle.source.specs.Counts.{storesFrom}
 use Prim.Native.Nat.{_+_, _-_, _≤_}
 use mathlib.Core.Path.{_≡_}
 use native.Mathlib.Omega.{arith}
@@ -9,8 +9,8 @@ use Rattle.search.proofs.tries.stores_from.Statement.{statement}
 use Rattle.search.proofs.tries.stores_from.Tie as tie
 use Rattle.search.proofs.tries.stores_from.Reads as reads
 use Rattle.search.proofs.tries.stores_from.Lts as lts
-use Rattle.program.proofs.Code.instruction_at.Reads as instruction-at-reads
-use Rattle.program.proofs.Instruction.one_store.Reads as one-store-reads
+use Rattle.source.proofs.Code.instruction_at.Reads as instruction-at-reads
+use Rattle.source.proofs.Instruction.one_store.Reads as one-store-reads
 
 abbrev Inv-loop : tie.InvT-loop
 Inv-loop c n r₀ k₀ r k = (r + storesFrom c k ≡ storesFrom c n) × (r ≤ k)

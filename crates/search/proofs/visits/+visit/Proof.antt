@@ -16,7 +16,7 @@ use Rattle.search.proofs.visits.visit.Kinds as visit-kinds
 use Rattle.search.proofs.visits.+visit.Lts-visit as visit-lts
 use Rattle.machine.proofs.Machine.moved.Reads as moved-reads
 use Rattle.machine.proofs.Machine.thread_of.Reads as thread-of-reads
-use Rattle.program.proofs.Program.code_of.Reads as code-of-reads
+use Rattle.source.proofs.Program.code_of.Reads as code-of-reads
 use Rattle.search.proofs.tries.next_try.Reads as next-try-reads
 use Rattle.search.proofs.tries.step_at.Reads as step-at-reads
 use Rattle.search.proofs.visits.put_step.Reads as put-step-reads

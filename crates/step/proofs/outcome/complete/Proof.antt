@@ -4,8 +4,8 @@ use mathlib.Core.Bool.{_&&_}
 use Prim.Native.Nat.{_-_}
 use native.Mathlib.Omega.{arith}
 use lib.Dec.{eqb}
-use Rattle.program.specs.Program.{codeOf}
-use Rattle.program.proofs.Loops.{Passed, passed-none, passed-more, passed-all}
+use Rattle.source.specs.Program.{codeOf}
+use Rattle.source.proofs.Loops.{Passed, passed-none, passed-more, passed-all}
 use Rattle.machine.specs.State.{threadOf}
 use Rattle.certify.proofs.Asked.{of-four}
 use Rattle.step.specs.Outcome.{complete}

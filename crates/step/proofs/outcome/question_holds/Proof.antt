@@ -4,8 +4,8 @@ use mathlib.Core.Path.{refl}
 use Prim.Native.Nat.{_-_}
 use native.Mathlib.Omega.{arith}
 use lib.ListN.{getD}
-use Rattle.program.specs.Program.{noCondition}
-use Rattle.program.proofs.Loops.{Passed, passed-none, passed-more, passed-all}
+use Rattle.source.specs.Program.{noCondition}
+use Rattle.source.proofs.Loops.{Passed, passed-none, passed-more, passed-all}
 use Rattle.certify.proofs.Asked.{machine-facts}
 use Rattle.step.specs.Outcome.{holds, questionHolds}
 use Rattle.step.proofs.Ending.{condition-thread, few-conditions}

@@ -1,0 +1,12 @@
+-- `program_form::code_entry` meets its contract: the code, then its count.
+-- Assumes nothing.
+use borrow.Author.Needs.{needs}
+use Rattle.source.proofs.Loops.{or-cond}
+use Rattle.program_form.proofs.code_entry.Statement.{statement}
+use Rattle.program_form.proofs.code_entry.Tie as tie
+
+returns : tie.Need-returns
+returns c = rw (c .before .code-test .ensures, or-cond)
+
+pub code-entry-spec : {M : Type 1} → statement M
+code-entry-spec = tie.close (tie.spec (λ c κs. search needs) returns)

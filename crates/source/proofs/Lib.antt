@@ -1,0 +1,15 @@
+pub mod Tests
+pub mod Counts
+pub mod Formed
+pub mod First
+pub mod Places
+pub mod Shape
+pub mod ReadBack
+pub mod Filled
+pub mod ReadThreads
+pub mod ReadFormed
+pub mod Reader
+pub mod Arrays
+pub mod Reading
+pub mod Coincide
+pub mod Loops
