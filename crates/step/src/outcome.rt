@@ -16,8 +16,8 @@ pub fn complete(p: Program, x: Machine) -> bool
     let n = p.threads;
     let mut ok = true;
     for i in 0..n {
-        let s = x.thread_of(i);
-        let c = p.code_of(i);
+        let s = x.threads[i as usize];
+        let c = p.codes[i as usize];
         ok = ((s.position == c.count) & (s.promises == 0)) & ok;
     }
     ok
