@@ -6,7 +6,7 @@ use mathlib.Core.List.{List, [], _∷_, _++_, append-nil}
 use Prim.Native.Nat.{ℕ, suc, _+_, _-_, _*_, _≤_, _<_}
 use native.Mathlib.Omega.{arith}
 use lib.Dec.{ltb}
-use lib.ListN.{length, take, set, take-append-drop}
+use lib.ListN.{length, getD, take, set, take-append-drop}
 use Rattle.program.specs.declared.Code.{Code}
 use Rattle.program.specs.declared.Program.{Program}
 use Rattle.machine.specs.declared.Memory.{Memory}
@@ -14,6 +14,7 @@ use Rattle.machine.specs.declared.Thread.{Thread}
 use Rattle.machine.specs.declared.Machine.{Machine}
 use Rattle.machine.specs.State.{threadOf}
 use Rattle.program.specs.Program.{codeOf}
+use Rattle.program.proofs.Arrays.{getD-any}
 use Rattle.certify.specs.Answers as certified
 use Rattle.certify.proofs.Asked.{of-four, ready-here}
 use Rattle.sequences.proofs.Scan.{Scan, going, found, out, andThen, under, visited, found-short}
@@ -150,6 +151,8 @@ module _ (p : Program) (x : Machine) where
 pub record AtThread (p : Program) (x : Machine) (d left : ℕ) (old : List ℕ) (m : Memory) (area : List ℕ) (rest i : ℕ) : Type 0 where
   pub ready : Ready p x d old
   pub memory : m ≡ x .memory
+  pub four-codes : length (p .codes) ≡ 4
+  pub four-threads : length (x .threads) ≡ 4
   pub same : area ≡ old
   pub stands : BeforeThread p x (visiting p x left) i rest
 
@@ -171,10 +174,23 @@ step-thread i k = go (ltb k 17)
     go false = refl
 
 module _ {p : Program} {x : Machine} {d left : ℕ} {old : List ℕ} {m : Memory} where
-  pub enters : Ready p x d old → (left ≡ 0 → ⊥) → (b : Bool) → b ≡ asked p x → b ≡ false → m ≡ x .memory → AtThread p x d left old m old (left - 1) 0
-  enters o h b e f z = record { ready = o; memory = z; same = refl; stands = begins p x left (omega (arith, h)) (sym e ∙ f) }
+  pub enters : Ready p x d old → (left ≡ 0 → ⊥) → (b : Bool) → b ≡ asked p x → b ≡ false → m ≡ x .memory → length (p .codes) ≡ 4 → length (x .threads) ≡ 4
+      → AtThread p x d left old m old (left - 1) 0
+  enters o h b e f z q w =
+      record { ready = o; memory = z; four-codes = q; four-threads = w; same = refl; stands = begins p x left (omega (arith, h)) (sym e ∙ f) }
 
   module _ {area : List ℕ} {rest i : ℕ} (T : AtThread p x d left old m area rest i) where
+    pub in-four : i < p .threads → i < 4
+    in-four h = of-four p x (T .ready .well) i h
+
+    -- what is read from the arrays
+    pub code-at : i < p .threads → (e : Code) → getD (p .codes) i e ≡ codeOf p i
+    unfolding codeOf
+    code-at h e = let l = in-four h in let q = T .four-codes in getD-any _ _ (p .codes) i (omega arith)
+
+    pub thread-at : i < p .threads → (e : Thread) → getD (x .threads) i e ≡ threadOf x i
+    thread-at h e = let l = in-four h in let q = T .four-threads in getD-any _ _ (x .threads) i (omega arith)
+
     pub thread-ready : i < p .threads → (c : Code) (s : Thread) → c ≡ codeOf p i → s ≡ threadOf x i → certified.Ready c m s
     thread-ready h c s e f = rw (e, f, T .memory) (ready-here p x (T .ready .well) i h)
 
@@ -187,7 +203,7 @@ module _ {p : Program} {x : Machine} {d left : ℕ} {old : List ℕ} {m : Memory
           in-program = h;
           in-range = nx .within;
           same = refl;
-          stands = first-try p x i k rest g (of-four p x (T .ready .well) i h) nx (T .stands);
+          stands = first-try p x i k rest g (in-four h) nx (T .stands);
         }
 
     pub ends : p .threads ≤ i → Tells d (visiting p x left) (Going rest) old area
@@ -198,7 +214,14 @@ module _ {p : Program} {x : Machine} {d left : ℕ} {old : List ℕ} {m : Memory
     -- all steps of the thread are done
     pub leaves : {c : Code} {s : Thread} {area' : List ℕ} {rest' k : ℕ} → AtStep p x d left area m i c s area' rest' k → 4113 ≤ k → AtThread p x d left old m area' rest' (i + 1)
     leaves {c} {s} {area'} {rest'} {k} U h =
-        record { ready = T .ready; memory = T .memory; same = U .same ∙ T .same; stands = thread-done p x i k rest' h (U .stands) }
+        record {
+          ready = T .ready;
+          memory = T .memory;
+          four-codes = T .four-codes;
+          four-threads = T .four-threads;
+          same = U .same ∙ T .same;
+          stands = thread-done p x i k rest' h (U .stands);
+        }
 
     -- an answer within the thread's steps is one of the whole
     pub answers : {r : Ran} {new : List ℕ} → Tells d (visiting p x left) r area new → Tells d (visiting p x left) r old new

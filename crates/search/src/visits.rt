@@ -43,8 +43,8 @@ pub fn visit(p: Program, x: Machine, depth: usize, left: u32, area: &mut [u8]) -
     let mut rest = left - 1;
     let mut i = 0u8;
     while i < p.threads {
-        let c = p.code_of(i);
-        let s = x.thread_of(i);
+        let c = p.codes[i as usize];
+        let s = x.threads[i as usize];
         let mut k = next_try(c, m, s, 0);
         while k < 4113 {
             let step = step_at(i, k);
