@@ -3,7 +3,8 @@
 use crate::bytes::{machine_bytes, machine_from, program_bytes, step_bytes, MACHINE};
 use crate::candidates::{possible_stores, Plan};
 use crate::machine::{Forward, Machine, Memory, Register, Thread};
-use crate::program::{Condition, Instruction, Program, BRANCH, COMPUTE, FENCE, LOAD, STORE};
+use crate::program::{Code, Condition, Instruction, Program, BRANCH, COMPUTE, FENCE, LOAD, STORE};
+use crate::rules::{decode, Instr, Load, Store};
 use crate::step::{accepted, Step};
 
 /// Numbers by splitmix64.
@@ -62,7 +63,7 @@ pub fn program(random: &mut Random, size: Size) -> Program {
     let mut program = Program { version: 1, threads, ..Program::default() };
     let mut stores = 0;
     for number in 0..threads as usize {
-        let count = random.below(size.instructions + 1);
+        let count = if random.one_in(20) { 0 } else { 1 + random.below(size.instructions) };
         program.code[number].count = count;
         let mut loads = 0;
         for index in 0..count {
@@ -162,22 +163,55 @@ fn one_byte(random: &mut Random, old: u8) -> u8 {
     }
 }
 
-/// A step that has a good chance to be accepted.
+/// A step that has a good chance to be accepted, or to be refused late.
 pub fn likely_step(random: &mut Random, program: &Program, machine: &Machine) -> Step {
-    let thread = random.below(program.threads);
-    let number = thread as usize;
+    let unfinished =
+        |&number: &u8| machine.thread[number as usize].position < program.code[number as usize].count;
+    let threads: Vec<u8> = (0..program.threads).filter(unfinished).collect();
+    if threads.is_empty() {
+        return Step { kind: 0, thread: random.below(program.threads), a: 0, b: 0 };
+    }
+    let thread = random.pick(&threads);
     if random.one_in(3) {
-        let plan = Plan::new(&program.code[number]);
-        let stores = possible_stores(&plan, &machine.thread[number], &machine.memory);
-        let possible: Vec<(u8, u8)> = (0..16)
-            .flat_map(|location| stores.values[location as usize].iter().map(move |value| (location, value)))
-            .collect::<Vec<_>>();
-        if !possible.is_empty() {
-            let (a, b) = random.pick(&possible);
-            return Step { kind: 1, thread, a, b };
+        let promises = possible_promises(program, machine, thread);
+        if !promises.is_empty() {
+            return random.pick(&promises);
         }
     }
-    Step { kind: 0, thread, a: random.below(machine.memory.count + 1), b: 0 }
+    let a = likely_time(
+        random,
+        &program.code[thread as usize],
+        &machine.thread[thread as usize],
+        &machine.memory,
+    );
+    Step { kind: 0, thread, a, b: 0 }
+}
+
+/// The promises of the thread that are worth trying.
+fn possible_promises(program: &Program, machine: &Machine, thread: u8) -> Vec<Step> {
+    let plan = Plan::new(&program.code[thread as usize]);
+    let stores = possible_stores(&plan, &machine.thread[thread as usize], &machine.memory);
+    let of = |a: u8| stores.values[a as usize].iter().map(move |b| Step { kind: 1, thread, a, b });
+    (0..16).flat_map(of).collect()
+}
+
+/// A time at the location for a load, of a promise for a store, and 0 for the others.
+fn likely_time(random: &mut Random, code: &Code, thread: &Thread, memory: &Memory) -> u8 {
+    let mut times = match decode(&code.instructions[thread.position as usize]) {
+        Instr::Load { mode, into, left, right } => {
+            memory.times_of(Load::of(thread, mode, into, left, right).location)
+        }
+        Instr::Store { .. } => u32::from(thread.promises) << 1,
+        _ => 1,
+    };
+    for _ in 0..random.below(times.count_ones().max(1) as u8) {
+        times &= times - 1;
+    }
+    if times == 0 {
+        0
+    } else {
+        times.trailing_zeros() as u8
+    }
 }
 
 /// Accepted steps from the fresh machine, and the machine after them.
@@ -232,10 +266,30 @@ pub fn machine(random: &mut Random, program: &Program) -> Machine {
     }
     let mut machine = Machine { memory, ..Machine::default() };
     for number in 0..program.threads {
-        machine.thread[number as usize] =
-            thread(random, program.code[number as usize].count, number, &memory);
+        let code = &program.code[number as usize];
+        machine.thread[number as usize] = thread(random, code.count, number, &machine.memory);
+        if random.one_in(2) {
+            promise_next_store(random, code, number, &mut machine);
+        }
     }
     machine
+}
+
+/// Makes one own message the promise of the thread's next instruction, if that is a store.
+fn promise_next_store(random: &mut Random, code: &Code, number: u8, machine: &mut Machine) {
+    let (thread, memory) = (&mut machine.thread[number as usize], &mut machine.memory);
+    if thread.position == code.count || memory.count == 0 {
+        return;
+    }
+    if let Instr::Store { release, address, data } = decode(&code.instructions[thread.position as usize]) {
+        let store = Store::of(thread, release, address, data);
+        let index = random.below(memory.count) as usize;
+        if memory.thread[index] == number {
+            memory.location[index] = store.location;
+            memory.value[index] = store.value;
+            thread.promise(index as u8 + 1);
+        }
+    }
 }
 
 fn thread(random: &mut Random, instructions: u8, number: u8, memory: &Memory) -> Thread {
@@ -254,7 +308,10 @@ fn thread(random: &mut Random, instructions: u8, number: u8, memory: &Memory) ->
         ..Thread::default()
     };
     thread.register.iter_mut().for_each(|register| register.value = random.below(3));
-    thread.position = random.below(instructions + 1);
+    thread.position = random.below(instructions.max(1));
+    if random.one_in(10) {
+        thread.position = instructions;
+    }
     for time in 1..=memory.count {
         if memory.thread[time as usize - 1] == number && random.one_in(4) {
             thread.promise(time);
@@ -273,9 +330,9 @@ pub fn damaged_machine(random: &mut Random, machine: &Machine) -> Machine {
 
 /// A program value and a machine value for it: reached, well formed, damaged or random bytes.
 pub fn values(random: &mut Random) -> (Vec<u8>, Vec<u8>) {
-    let size = random.pick(&[SMALL, MIDDLE, MIDDLE, LARGE]);
+    let size = random.pick(&[SMALL, MIDDLE, MIDDLE, LARGE, LARGE]);
     let program = program(random, size);
-    let tries = random.below(40);
+    let tries = random.below(2 * size.instructions);
     let mut state =
         if random.one_in(2) { machine(random, &program) } else { walk(random, &program, tries).1 };
     let mut code = program_bytes(&program).to_vec();
