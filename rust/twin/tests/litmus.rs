@@ -4,21 +4,24 @@ use twin::litmus::{examples, vectors, BUDGET, EXAMPLES_BUDGET};
 use twin::program::read;
 use twin::search::{search, Verdict};
 
+/// What the few tests that need more than the common budget are given.
+const MORE: u32 = 40_000_000;
+
 #[test]
 fn published_verdicts_and_counts() {
     let mut noticed = Vec::new();
     for vector in vectors() {
         let program = read(&vector.file).expect(vector.name);
-        let found = search(&program, BUDGET);
-        // The few that need more than the budget are asked again with all there is.
-        let verdict = match found.verdict {
-            Verdict::NotFinished => search(&program, u32::MAX).verdict,
-            verdict => verdict,
-        };
-        if verdict != vector.verdict {
-            noticed.push(format!("{} verdict", vector.name));
-        } else if found.count != vector.count {
+        let mut found = search(&program, BUDGET);
+        let same_count = found.count == vector.count;
+        if !same_count {
             noticed.push(format!("{} count", vector.name));
+        } else if found.verdict == Verdict::NotFinished {
+            found = search(&program, MORE);
+        }
+        let decided = same_count || found.verdict != Verdict::NotFinished;
+        if decided && found.verdict != vector.verdict {
+            noticed.push(format!("{} verdict", vector.name));
         }
     }
     assert!(noticed.is_empty(), "noticed by {}: {}", noticed.len(), noticed.join(", "));
