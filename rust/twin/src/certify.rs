@@ -4,7 +4,7 @@
 use crate::candidates::Plan;
 use crate::machine::{Memory, Thread};
 use crate::program::Code;
-use crate::rules::{decode, execute, local, Instr, Load, Store};
+use crate::rules::{common_view, decode, execute, local, Instr, Load, Store};
 
 /// The literal test: "each load tries every time from 0 upward, and each try goes on with the next
 /// instruction". Steps inside it are not certified themselves.
@@ -42,13 +42,12 @@ fn appends(code: &Code, number: u8, thread: &Thread, memory: &Memory, instr: &In
 }
 
 /// The same answer for well-formed values, trying only times that pass and stopping where a promise
-/// is out of reach: more promises than stores left, or one at or below wNew or CAP, which only grow.
+/// is out of reach: more promises than stores left, or one not above the view that all stores have.
 pub fn quickly(plan: &Plan, number: u8, thread: &Thread, memory: &mut Memory) -> bool {
     if thread.promises == 0 {
         return true;
     }
-    let floor = thread.w_new.max(thread.cap);
-    let too_late = u32::from(thread.promises) & ((1 << floor) - 1) != 0;
+    let too_late = u32::from(thread.promises) & ((1 << common_view(thread)) - 1) != 0;
     let too_many = thread.promises.count_ones() > u32::from(plan.stores_left(thread.position));
     if too_late || too_many {
         return false;

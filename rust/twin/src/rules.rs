@@ -163,6 +163,14 @@ impl Load {
     }
 }
 
+/// What the pre-view of every store has of the thread, "wNew and CAP"; it only grows.
+#[inline]
+pub fn common_view(thread: &Thread) -> u8 {
+    let mut view = thread.w_new;
+    raise(&mut view, thread.cap);
+    view
+}
+
 /// A store that is about to execute: what it writes and what must lie below its time.
 #[derive(Clone, Copy, Debug)]
 pub struct Store {
@@ -184,8 +192,7 @@ impl Store {
         // "Pre-view: largest of address view, data view, wNew and CAP, and for release also rOld and wOld."
         let mut pre_view = address_view;
         raise(&mut pre_view, data_view);
-        raise(&mut pre_view, thread.w_new);
-        raise(&mut pre_view, thread.cap);
+        raise(&mut pre_view, common_view(thread));
         if release {
             raise(&mut pre_view, thread.r_old);
             raise(&mut pre_view, thread.w_old);
