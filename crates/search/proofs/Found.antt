@@ -21,9 +21,9 @@ use Rattle.replay.specs.Replay.{ended}
 use Rattle.replay.specs.Answers.{answered, replay}
 use Rattle.replay.specs.InTurn.{InTurn, no-step, a-step}
 use Rattle.replay.proofs.Good.{in-turn-replayed, in-turn-holds}
-use Rattle.search.specs.Search.{stepping, sequencesOf, answerTo}
-use Rattle.search.proofs.Machine.{taken-accepted}
-use Rattle.search.proofs.Meaning.{listed, demand-3}
+use Rattle.listing.specs.Listing.{stepping, sequencesOf, answerTo}
+use Rattle.listing.proofs.Machine.{taken-accepted}
+use Rattle.listing.proofs.Meaning.{listed, demand-3}
 
 some-same : {x y : Machine} → some x ≡ some y → x ≡ y
 some-same {x} {y} e = cc

@@ -1,15 +1,3 @@
-pub mod Steps
-pub mod Keys
-pub mod Machine
-pub mod Meaning
-pub mod Few
-pub mod Quick
-pub mod Possible
-pub mod Ranges
-pub mod Parts
-pub mod Skipped
-pub mod Telling
-pub mod Worth
-pub mod Turns
 pub mod Told
 pub mod Found
+pub mod Promise

@@ -21,6 +21,7 @@ use Rattle.source.proofs.Counts.{sum-le}
 use Rattle.source.proofs.Formed.{ProgramOk, program-ok}
 use Rattle.source.proofs.ReadFormed.{read-formed}
 use Rattle.machine.specs.State.{fresh}
+use Rattle.values.specs.Lists.{put}
 use Rattle.sequences.specs.Sequences.{upto, wanted}
 use Rattle.sequences.specs.Answer as sequences
 use Rattle.sequences.proofs.Scan.{Scan, going, found, out, scan, told, answer-told, leftOf, left-le}
@@ -29,12 +30,14 @@ use Rattle.step.specs.Trace.{traceBytes}
 use Rattle.step.proofs.Bound.{potential, potential-fresh}
 use Rattle.step.proofs.Kept.{fresh-formed}
 use Rattle.replay.proofs.Files.{read-good, read-refused}
-use Rattle.search.specs.Search.{stepping, sequencesOf, answerTo}
+use Rattle.listing.specs.Listing.{stepping, sequencesOf, answerTo}
 use Rattle.search.specs.Answers.{Allowed, Forbidden, NotFinished, Answer, answerOf, areaOf, refusal, answerOn, areaOn, Answers, Searched}
-use Rattle.search.specs.Visits.{Ran, Going, Found, Out, visiting, put, Tells, Ready}
-use Rattle.search.proofs.Machine.{lawful}
-use Rattle.search.proofs.Parts.{visiting-is}
-use Rattle.search.proofs.Telling.{trace-length}
+use Rattle.visits.specs.declared.Ran.{Ran}
+use Rattle.visits.specs.declared.Ran.the-variants.{Going, Found, Out}
+use Rattle.visits.specs.Visits.{visiting, Tells, Ready}
+use Rattle.listing.proofs.Machine.{lawful}
+use Rattle.visits.proofs.Parts.{visiting-is}
+use Rattle.visits.proofs.Telling.{trace-length}
 
 -- ---- the room for every trace
 sixteen-each : (n : ℕ) → sumBelow (λ i. 16) n ≡ 16 * n

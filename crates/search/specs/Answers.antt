@@ -11,7 +11,7 @@ use Rattle.source.specs.File.{FileAnswer, refused, program, readFile}
 use Rattle.step.specs.Step.{Step}
 use Rattle.step.specs.Trace.{traceBytes}
 use Rattle.sequences.specs.Answer as sequences
-use Rattle.search.specs.Search.{answerTo}
+use Rattle.listing.specs.Listing.{answerTo}
 pub use Rattle.search.specs.declared.Verdict.{Verdict}
 pub use Rattle.search.specs.declared.Verdict.the-variants.{Allowed, Forbidden, NotFinished, Refused}
 pub use Rattle.search.specs.declared.Answer.{Answer}

@@ -1,3 +1,1 @@
-pub mod Search
 pub mod Answers
-pub mod Visits

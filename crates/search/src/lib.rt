@@ -1,7 +1,4 @@
 // The search: every accepted sequence in order, with a budget. A sequence is visited before its extensions.
-mod tries;
-mod visits;
-
 ghost use mathlib.Core.Path.{_≡_};
 ghost use Prim.Native.Nat.{_≤_};
 ghost use lib.Dec.{T};
@@ -12,15 +9,8 @@ use machine::machines::fresh;
 use program::ReadAnswer;
 use program::read;
 use source::Program;
+use visits::Ran;
 use visits::visit;
-
-// How far a visit has come: on, with so much of the budget left; at a wanted sequence of so many steps, with so much left; or
-// at a sequence with nothing left.
-pub enum Ran {
-    Going(u32),
-    Found(u32, usize),
-    Out,
-}
 
 // A refusal has its number and place.
 pub enum Verdict {

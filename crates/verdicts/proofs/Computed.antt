@@ -16,12 +16,12 @@ use Rattle.step.specs.Step.{Step, settle, executeStep, promiseStep, kindStep, r
 use Rattle.step.specs.Order.{range, forEach}
 use Rattle.step.specs.Outcome.{complete, lastOf, lastValue, holds, questionHolds, asked}
 use Rattle.sequences.proofs.Fewer.{each, hunt}
-use Rattle.search.proofs.Keys.{insertKey}
-use Rattle.search.proofs.Few.{keysOf, fewOf, few}
-use Rattle.search.proofs.Quick.{quick, quick-is}
+use Rattle.listing.proofs.Keys.{insertKey}
+use Rattle.listing.proofs.Few.{keysOf, fewOf, few}
+use Rattle.listing.proofs.Quick.{quick, quick-is}
 use Rattle.source.proofs.Tests.{and-left, and-right}
 use Rattle.sequences.specs.Answer.{Answer}
-use Rattle.search.specs.Search.{answerTo}
+use Rattle.listing.specs.Listing.{answerTo}
 use Rattle.verdicts.specs.Cases.{Case, Right}
 
 -- the programs are well formed: this computes

@@ -8,7 +8,7 @@ use Rattle.source.specs.declared.Program.{Program}
 use Rattle.step.specs.Step.{Step}
 use Rattle.step.specs.Order.{execution, promise}
 use Rattle.sequences.specs.Answer.{Answer, allowed, forbidden, unfinished}
-use Rattle.search.specs.Search.{answerTo}
+use Rattle.listing.specs.Listing.{answerTo}
 use Rattle.verdicts.specs.Listing.{con, load, store, registerIs, locationIs, program}
 
 -- a program with a budget, and what is to be answered

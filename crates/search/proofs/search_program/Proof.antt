@@ -7,7 +7,7 @@ use Rattle.search.proofs.search_program.Tie as tie
 use Rattle.search.proofs.search_program.Reads as reads
 use Rattle.search.proofs.search_program.Lts as lts
 use Rattle.machine.proofs.machines.fresh.Reads as fresh-reads
-use Rattle.search.proofs.visits.visit.Reads as visit-reads
+use Rattle.visits.proofs.visit.Reads as visit-reads
 
 -- src/lib.rt:55:20
 fresh-requires : tie.Need-fresh-requires

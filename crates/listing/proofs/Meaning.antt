@@ -1,0 +1,67 @@
+-- What the list of sequences and the answer are: the list is all accepted sequences in order, the only such list, and demand 3 holds over it.
+-- Assumes nothing.
+use mathlib.Core.Path.{_≡_, subst}
+use mathlib.Core.List.{List, [], _∷_}
+use mathlib.Core.Option.{some}
+use Prim.Native.Nat.{ℕ, _≤_}
+use native.Mathlib.Omega.{arith}
+use lib.ListN.{length}
+use Rattle.source.specs.declared.Program.{Program}
+use Rattle.source.specs.Counts.{size}
+use Rattle.machine.specs.declared.Machine.{Machine}
+use Rattle.machine.specs.State.{fresh}
+use Rattle.sequences.specs.Sequences.{Accepted, Listed, run, wanted}
+use Rattle.sequences.specs.Answer.{Answer, allowed, forbidden, answer}
+use Rattle.sequences.specs.Demand.{Demand}
+use Rattle.sequences.proofs.Listed.{first-step}
+use Rattle.sequences.proofs.Listed as lists
+use Rattle.sequences.proofs.Meets as answers
+use Rattle.step.specs.Step.{Step, step}
+use Rattle.step.specs.Reached.{Reached, on}
+use Rattle.step.proofs.Bound.{potential, potential-fresh}
+use Rattle.listing.specs.Listing.{stepping, sequencesOf, answerTo}
+use Rattle.listing.proofs.Machine.{taken-accepted, lawful}
+
+fresh-bound : (p : Program) → potential p fresh ≤ size p
+fresh-bound p = let e = potential-fresh p in omega arith
+
+-- BOUND: no accepted sequence has more steps than the program has instructions and stores together
+pub bound : (p : Program) (q : List Step) → Accepted (stepping p) fresh q → length q ≤ size p
+bound p q a = let h = lists.short (stepping p) (lawful p) fresh q a in let e = potential-fresh p in omega arith
+
+-- LISTED: the list is all accepted sequences, in order, each once
+pub listed : (p : Program) → Listed (stepping p) fresh (sequencesOf p)
+unfolding sequencesOf
+listed p = lists.listed (stepping p) (lawful p) (size p) fresh (fresh-bound p)
+
+-- ONLY: and there is no other such list
+pub only : (p : Program) (l : List (List Step)) → Listed (stepping p) fresh l → l ≡ sequencesOf p
+unfolding sequencesOf
+only p = lists.only (stepping p) (lawful p) (size p) fresh (fresh-bound p)
+
+-- DEMAND 3, over any list of all accepted sequences in order
+pub demand-3 : (p : Program) (b : ℕ) (l : List (List Step)) → Listed (stepping p) fresh l → Demand (wanted (stepping p) fresh) l b (answerTo p b)
+unfolding answerTo sequencesOf
+demand-3 p b l h = answers.demand-3 (stepping p) (lawful p) (size p) fresh (fresh-bound p) b l h
+
+-- ONE ANSWER: nothing else meets demand 3
+pub one-answer : (p : Program) (b : ℕ) (o : Answer Step) → Demand (wanted (stepping p) fresh) (sequencesOf p) b o → o ≡ answerTo p b
+unfolding answerTo
+one-answer p b o d = answers.one-answer (wanted (stepping p) fresh) (sequencesOf p) b o (answer (wanted (stepping p) fresh) (sequencesOf p) b) d (answers.meets (wanted (stepping p) fresh) (sequencesOf p) b)
+
+-- a larger budget never changes allowed or forbidden
+pub more-budget-allowed : (p : Program) (b c n : ℕ) (q : List Step) → b ≤ c → answerTo p b ≡ allowed n q → answerTo p c ≡ allowed n q
+unfolding answerTo
+more-budget-allowed p b c n q h e = answers.more-budget-allowed (wanted (stepping p) fresh) (sequencesOf p) b c n q h e
+
+pub more-budget-forbidden : (p : Program) (b c n : ℕ) → b ≤ c → answerTo p b ≡ forbidden n → answerTo p c ≡ forbidden n
+unfolding answerTo
+more-budget-forbidden p b c n h e = answers.more-budget-forbidden (wanted (stepping p) fresh) (sequencesOf p) b c n h e
+
+-- an accepted sequence from the fresh machine leads to a machine that is reached
+pub run-reached : (p : Program) (q : List Step) (x y : Machine) → Reached p x → run (stepping p) x q ≡ some y → Reached p y
+unfolding run
+run-reached p [] x y r e = let d : x ≡ y = cc in subst (Reached p) d r
+run-reached p (k ∷ q) x y r e =
+    let f = first-step (stepping p) x y k q e in
+    run-reached p q (f .0) y (on k (f .0) r (taken-accepted (step p x k) (f .0) (f .1))) (f .2)

@@ -1,0 +1,6 @@
+pub mod Ranges
+pub mod Parts
+pub mod Skipped
+pub mod Telling
+pub mod Worth
+pub mod Turns

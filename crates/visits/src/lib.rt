@@ -1,0 +1,79 @@
+// The visits: a state, then each state that an accepted step leads to. The trace is written on the way back.
+mod tries;
+
+ghost use mathlib.Core.Path.{_≡_};
+ghost use Prim.Native.Nat.{_+_, _≤_};
+ghost use lib.ListN.{length};
+ghost use Rattle.step.specs.Trace.{stepBytes};
+ghost use Rattle.values.specs.Lists.{put};
+ghost use Rattle.visits.specs.Visits.{visiting, Tells, Ready};
+use machine::Machine;
+use source::Program;
+use step::StepAnswer;
+use step::TraceStep;
+use step::outcome::asked;
+use step::thread_step;
+use tries::next_try;
+use tries::step_at;
+
+// How far a visit has come: on, with so much of the budget left; at a wanted sequence of so many steps, with so much left; or
+// at a sequence with nothing left.
+pub enum Ran {
+    Going(u32),
+    Found(u32, usize),
+    Out,
+}
+
+// The six bytes of step k, at a place.
+fn put_step(area: &mut [u8], at: usize, k: TraceStep)
+    requires { ⌜ at + 6 ≤ length (now area) ⌝ }
+    ensures { λ _. ⌜ now (area .exit) ≡ put at (stepBytes k) (now (area .entry)) ⌝ }
+{
+    area[at] = 0x53;
+    area[at + 1] = 0x54;
+    area[at + 2] = k.kind;
+    area[at + 3] = k.thread;
+    area[at + 4] = k.a;
+    area[at + 5] = k.b;
+}
+
+// Visits x, to which `depth` steps have led, and then each state that an accepted step leads to: threads ascending; within
+// one, executions by time, then promises by location, then value. A refused step costs nothing.
+pub fn visit(p: Program, x: Machine, depth: usize, left: u32, area: &mut [u8]) -> Ran
+    requires { ⌜ Ready p x depth (now area) ⌝ }
+    ensures { λ r. ⌜ Tells depth (visiting p x left) r (now (area .entry)) (now (area .exit)) ⌝ }
+{
+    if left == 0 {
+        return Ran::Out;
+    }
+    if asked(p, x) {
+        return Ran::Found(left - 1, depth);
+    }
+    let m = x.memory;
+    let mut rest = left - 1;
+    let mut i = 0u8;
+    while i < p.threads {
+        let c = p.codes[i as usize];
+        let s = x.threads[i as usize];
+        let mut k = next_try(c, m, s, 0);
+        while k < 4113 {
+            let step = step_at(i, k);
+            let r = thread_step(c, m, s, step);
+            let answer = r.answer;
+            if let StepAnswer::Taken = answer {
+                let next = x.moved(i, r.memory, r.thread);
+                match visit(p, next, depth + 1, rest, area) {
+                    Ran::Going(b) => rest = b,
+                    Ran::Found(b, n) => {
+                        put_step(area, depth * 6, step);
+                        return Ran::Found(b, n);
+                    }
+                    Ran::Out => return Ran::Out,
+                }
+            }
+            k = next_try(c, m, s, k + 1);
+        }
+        i += 1;
+    }
+    Ran::Going(rest)
+}

@@ -1,0 +1,95 @@
+// The next steps of one thread that are worth a try, by their number: 0 to 16 execute at that time, from 17 on promise
+// location l with value v as 17 + 256 · l + v.
+ghost use mathlib.Core.Path.{_≡_};
+ghost use Prim.Native.Nat.{_≤_, _<_};
+ghost use Rattle.source.specs.Counts.{storesFrom};
+ghost use Rattle.step.specs.Order.{execution, promise};
+ghost use Rattle.certify.specs.Answers.{Ready};
+ghost use Rattle.listing.proofs.Keys.{keyPromise};
+ghost use Rattle.visits.specs.Visits.{stepAt, Next};
+use candidates::least::next_store;
+use candidates::pass::possible_stores;
+use certify::worth_trying;
+use machine::Memory;
+use machine::Thread;
+use machine::merge::larger;
+use source::Code;
+use step::TraceStep;
+
+fn execution(i: u8, t: u8) -> TraceStep
+    ensures { λ r. ⌜ r ≡ execution i t ⌝ }
+{
+    TraceStep {
+        kind: 0,
+        thread: i,
+        a: t,
+        b: 0,
+    }
+}
+
+fn promise(i: u8, l: u8, v: u8) -> TraceStep
+    ensures { λ r. ⌜ r ≡ promise i l v ⌝ }
+{
+    TraceStep {
+        kind: 1,
+        thread: i,
+        a: l,
+        b: v,
+    }
+}
+
+pub fn step_at(i: u8, k: u16) -> TraceStep
+    requires { ⌜ k < 4113 ⌝ }
+    ensures { λ r. ⌜ r ≡ stepAt i k ⌝ }
+{
+    if k < 17 {
+        return execution(i, k as u8);
+    }
+    let n = k - 17;
+    promise(i, (n / 256) as u8, (n % 256) as u8)
+}
+
+// The stores at position n and after it.
+fn stores_from(c: Code, n: u8) -> u8
+    requires { ⌜ c .count ≤ 16 ⌝ }
+    ensures { λ r. ⌜ r ≡ storesFrom c n ⌝ }
+{
+    let mut r = 0u8;
+    let mut k = n;
+    while k < c.count {
+        r += c.instruction_at(k).one_store();
+        k += 1;
+    }
+    r
+}
+
+// The next promise that is possible, by 256 · l + v; none if each store that is left has its promise.
+fn next_promise(c: Code, m: Memory, s: Thread, from: u16) -> u16
+    requires { ⌜ Ready c m s ⌝ }
+    ensures { λ r. ⌜ Next keyPromise 4096 c m s from r ⌝ }
+{
+    if stores_from(c, s.position) as u32 <= u16::count_ones(s.promises) {
+        return 4096;
+    }
+    next_store(possible_stores(c, m, s), from)
+}
+
+// The next step that is worth a try.
+pub fn next_try(c: Code, m: Memory, s: Thread, from: u16) -> u16
+    requires { ⌜ Ready c m s ⌝ }
+    ensures { λ r. ⌜ Next stepAt 4113 c m s from r ⌝ }
+{
+    if 17 <= from {
+        return next_promise(c, m, s, from - 17) + 17;
+    }
+    let n = s.position;
+    if c.count <= n {
+        return 4113;
+    }
+    let w = worth_trying(c.instr_at(n), m, s);
+    let t = larger(from as u8, w.first);
+    if t <= w.last {
+        return t as u16;
+    }
+    next_promise(c, m, s, 0) + 17
+}

@@ -1,0 +1,55 @@
+//! Replaying a trace file on a program file.
+
+use crate::{array, calls, number_at, served, Machine, Why, MACHINE};
+
+/// A trace whose every step was accepted.
+#[derive(Clone, PartialEq, Eq, Debug)]
+pub struct Replayed {
+    pub steps: u32,
+    pub machine: Machine,
+    /// Every thread is at its end with no promise left.
+    pub complete: bool,
+    /// It is complete and the question holds.
+    pub holds: bool,
+}
+
+/// The file that a refusal is in.
+#[derive(Clone, Copy, PartialEq, Eq, Debug)]
+pub enum File {
+    Program,
+    Trace,
+}
+
+/// A refused replay: where, why, and how far it came.
+#[derive(Clone, PartialEq, Eq, Debug)]
+pub struct ReplayRefused {
+    pub why: Why,
+    pub file: File,
+    /// The index of the trace's record, from 0.
+    pub index: u32,
+    /// The place in the file.
+    pub place: u32,
+    /// The steps before the refusal, and the machine after them.
+    pub steps: u32,
+    pub machine: Box<Machine>,
+}
+
+/// Replays the trace from the fresh machine; "the first refusal ends the replay".
+pub fn replay(file: &[u8], trace: &[u8]) -> Result<Replayed, ReplayRefused> {
+    let mut answer = [0; 16 + MACHINE];
+    served(calls::replay(file, trace, &mut answer));
+    let [number, within, complete, holds] = array(&answer, 0);
+    let steps = number_at(&answer, 4);
+    let machine = Machine::from_bytes(array(&answer, 16));
+    if number == 0 {
+        return Ok(Replayed { steps, machine, complete: complete == 1, holds: holds == 1 });
+    }
+    Err(ReplayRefused {
+        why: Why(number),
+        file: if within == 1 { File::Program } else { File::Trace },
+        index: number_at(&answer, 8),
+        place: number_at(&answer, 12),
+        steps,
+        machine: Box::new(machine),
+    })
+}

@@ -1,0 +1,62 @@
+//! The wrapper on document 01's own examples.
+
+use blyskota::{
+    replay, search, trace_file, Answer, File, Machine, Message, Program, Refused, ReplayRefused, Step, Why,
+};
+
+const EMPTY: &[u8] = &[0x50, 0x47, 1, 1, 0x54, 0x48, 0, 0, 0x51, 0x55, 0];
+
+/// E: "thread 0 is S, thread 1 loads r0 from 0", asked for a value of r0.
+fn e(value: u8) -> Vec<u8> {
+    let mut file = vec![0x50, 0x47, 1, 2];
+    file.extend([0x54, 0x48, 0, 1, 0x49, 0x4E, 2, 0, 0, 0, 0, 0, 1]);
+    file.extend([0x54, 0x48, 1, 1, 0x49, 0x4E, 1, 0, 0, 0, 0, 0, 0]);
+    file.extend([0x51, 0x55, 1, 0x43, 0x4E, 0, 1, 0, value]);
+    file
+}
+
+const RUN: [Step; 3] = [
+    Step::Promise { thread: 0, location: 0, value: 1 },
+    Step::Execute { thread: 0, time: 1 },
+    Step::Execute { thread: 1, time: 1 },
+];
+
+#[test]
+fn searches() {
+    assert_eq!(search(EMPTY, 1), Ok(Answer::Allowed { count: 1, trace: vec![] }));
+    assert_eq!(search(EMPTY, 0), Ok(Answer::NotFinished { count: 0 }));
+    assert_eq!(search(&e(1), 5), Ok(Answer::Allowed { count: 5, trace: RUN.to_vec() }));
+    assert_eq!(search(&e(2), 12), Ok(Answer::Forbidden { count: 12 }));
+    assert_eq!(search(&e(2), 11), Ok(Answer::NotFinished { count: 11 }));
+    assert_eq!(search(&[], 1), Err(Refused { why: Why(1), place: 0 }));
+    assert_eq!(Program::read(&EMPTY[..4]), Err(Refused { why: Why(1), place: 4 }));
+}
+
+#[test]
+fn steps() {
+    let program = Program::read(&e(1)).expect("E");
+    assert_eq!(program.threads(), 2);
+    let mut machine = Machine::fresh();
+    assert_eq!(machine.step(&program, RUN[1]), Err(Why(26)));
+    for step in RUN {
+        assert_eq!(machine.certify(&program, 0), Ok(true));
+        machine = machine.step(&program, step).expect("an accepted step");
+    }
+    assert_eq!(machine.messages(), [Message { location: 0, value: 1, thread: 0 }]);
+    let reader = machine.thread(1).expect("thread 1");
+    assert_eq!((reader.position, reader.registers[0], reader.r_old), (1, (1, 1), 1));
+    assert_eq!(machine.step(&program, RUN[2]), Err(Why(25)));
+    assert_eq!(machine.certify(&program, 2), Err(Why(21)));
+    assert_eq!(Machine::from_bytes([17; 341]).certify(&program, 0), Err(Why(20)));
+}
+
+#[test]
+fn replays() {
+    let replayed = replay(&e(1), &trace_file(&RUN)).expect("the run of the example");
+    assert_eq!((replayed.steps, replayed.complete, replayed.holds), (3, true, true));
+    let ReplayRefused { why, file, index, place, steps, machine } =
+        replay(&e(1), &trace_file(&[RUN[0], RUN[0]])).expect_err("one store, two promises");
+    assert_eq!((why, file, index, place, steps), (Why(29), File::Trace, 1, 6, 1));
+    assert_eq!(machine.messages().len(), 1);
+    assert_eq!(why.to_string(), "refused 29: thread not certified after the step");
+}

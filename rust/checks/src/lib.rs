@@ -1,0 +1,129 @@
+//! Two sides answer the same calls, and every byte is compared: the library, whose calls are proved,
+//! and the twin, which was written from document 01 alone.
+
+pub mod batches;
+
+use twin::calls as twin_calls;
+use twin::step::Step;
+
+/// Something that answers the five calls.
+pub trait Side {
+    fn read(&self, file: &[u8], answer: &mut [u8]) -> u32;
+    fn step(&self, program: &[u8], machine: &[u8], step: Step, answer: &mut [u8]) -> u32;
+    fn certify(&self, program: &[u8], machine: &[u8], thread: u8, answer: &mut [u8]) -> u32;
+    fn replay(&self, file: &[u8], trace: &[u8], answer: &mut [u8]) -> u32;
+    fn search(&self, file: &[u8], budget: u32, area: &mut [u8], answer: &mut [u8]) -> u32;
+}
+
+/// Document 01 in Rust.
+pub struct Twin;
+
+impl Side for Twin {
+    fn read(&self, file: &[u8], answer: &mut [u8]) -> u32 {
+        twin_calls::read(file, answer)
+    }
+
+    fn step(&self, program: &[u8], machine: &[u8], step: Step, answer: &mut [u8]) -> u32 {
+        twin_calls::step(program, machine, step, answer)
+    }
+
+    fn certify(&self, program: &[u8], machine: &[u8], thread: u8, answer: &mut [u8]) -> u32 {
+        twin_calls::certify(program, machine, thread, answer)
+    }
+
+    fn replay(&self, file: &[u8], trace: &[u8], answer: &mut [u8]) -> u32 {
+        twin_calls::replay(file, trace, answer)
+    }
+
+    fn search(&self, file: &[u8], budget: u32, area: &mut [u8], answer: &mut [u8]) -> u32 {
+        twin_calls::search(file, budget, area, answer)
+    }
+}
+
+/// The proved code behind the C calls.
+pub struct Library;
+
+impl Side for Library {
+    fn read(&self, file: &[u8], answer: &mut [u8]) -> u32 {
+        blyskota::calls::read(file, answer)
+    }
+
+    fn step(&self, program: &[u8], machine: &[u8], step: Step, answer: &mut [u8]) -> u32 {
+        blyskota::calls::step(program, machine, [step.kind, step.thread, step.a, step.b], answer)
+    }
+
+    fn certify(&self, program: &[u8], machine: &[u8], thread: u8, answer: &mut [u8]) -> u32 {
+        blyskota::calls::certify(program, machine, thread, answer)
+    }
+
+    fn replay(&self, file: &[u8], trace: &[u8], answer: &mut [u8]) -> u32 {
+        blyskota::calls::replay(file, trace, answer)
+    }
+
+    fn search(&self, file: &[u8], budget: u32, area: &mut [u8], answer: &mut [u8]) -> u32 {
+        blyskota::calls::search(file, budget, area, answer)
+    }
+}
+
+/// One call with all its arguments; areas are given by their lengths.
+#[derive(Clone, Debug)]
+pub enum Call {
+    Read { file: Vec<u8> },
+    Step { program: Vec<u8>, machine: Vec<u8>, step: Step },
+    Certify { program: Vec<u8>, machine: Vec<u8>, thread: u8 },
+    Replay { file: Vec<u8>, trace: Vec<u8> },
+    Search { file: Vec<u8>, budget: u32, area: usize },
+}
+
+/// All that a call leaves: its code, the answer area and the lent trace area.
+#[derive(Clone, PartialEq, Eq, Debug)]
+pub struct Left {
+    pub code: u32,
+    pub answer: Vec<u8>,
+    pub area: Vec<u8>,
+}
+
+/// What areas hold before a call, so that a byte written out of turn shows.
+const BEFORE: u8 = 0xA5;
+
+impl Call {
+    /// The length of this call's answer.
+    pub fn answer_length(&self) -> usize {
+        match self {
+            Call::Read { .. } => twin_calls::READ_ANSWER,
+            Call::Step { .. } => twin_calls::STEP_ANSWER,
+            Call::Certify { .. } => twin_calls::CERTIFY_ANSWER,
+            Call::Replay { .. } => twin_calls::REPLAY_ANSWER,
+            Call::Search { .. } => twin_calls::SEARCH_ANSWER,
+        }
+    }
+
+    /// Asks a side, with an answer area of this length.
+    pub fn ask(&self, side: &dyn Side, room: usize) -> Left {
+        let mut answer = vec![BEFORE; room];
+        let mut area = Vec::new();
+        let code = match self {
+            Call::Read { file } => side.read(file, &mut answer),
+            Call::Step { program, machine, step } => side.step(program, machine, *step, &mut answer),
+            Call::Certify { program, machine, thread } => {
+                side.certify(program, machine, *thread, &mut answer)
+            }
+            Call::Replay { file, trace } => side.replay(file, trace, &mut answer),
+            Call::Search { file, budget, area: length } => {
+                area = vec![BEFORE; *length];
+                side.search(file, *budget, &mut area, &mut answer)
+            }
+        };
+        Left { code, answer, area }
+    }
+
+    /// The refusal number in the answer of a served call.
+    pub fn refusal(&self, left: &Left) -> Option<u8> {
+        let at = usize::from(matches!(self, Call::Search { .. }));
+        if left.code == 0 {
+            left.answer.get(at).copied()
+        } else {
+            None
+        }
+    }
+}

@@ -1,0 +1,104 @@
+//! The values as bytes: 487 for a program, 341 for a machine. Any bytes of these lengths are a
+//! value, and writing it gives them back.
+
+use crate::machine::{Forward, Machine, Memory, Register, Thread};
+use crate::program::{Code, Condition, Program};
+
+pub const PROGRAM: usize = 487;
+pub const MACHINE: usize = 341;
+
+/// Takes bytes off the front.
+struct Take<'a>(&'a [u8]);
+
+impl Take<'_> {
+    fn byte(&mut self) -> u8 {
+        let (first, rest) = self.0.split_first().expect("the length is checked before");
+        self.0 = rest;
+        *first
+    }
+
+    fn bytes<const N: usize>(&mut self) -> [u8; N] {
+        std::array::from_fn(|_| self.byte())
+    }
+}
+
+/// "version, threads, 4 x (instruction count, 16 x 7 bytes), condition count, 8 x 4 bytes"
+pub fn program_from(bytes: &[u8; PROGRAM]) -> Program {
+    let mut take = Take(bytes);
+    Program {
+        version: take.byte(),
+        threads: take.byte(),
+        code: std::array::from_fn(|_| Code {
+            count: take.byte(),
+            instructions: std::array::from_fn(|_| take.bytes()),
+        }),
+        conditions: take.byte(),
+        condition: std::array::from_fn(|_| {
+            let [kind, thread, index, value] = take.bytes();
+            Condition { kind, thread, index, value }
+        }),
+    }
+}
+
+pub fn program_bytes(program: &Program) -> [u8; PROGRAM] {
+    let mut bytes = vec![program.version, program.threads];
+    for code in &program.code {
+        bytes.push(code.count);
+        bytes.extend(code.instructions.iter().flatten());
+    }
+    bytes.push(program.conditions);
+    for condition in &program.condition {
+        bytes.extend([condition.kind, condition.thread, condition.index, condition.value]);
+    }
+    bytes.try_into().expect("the parts make up the length")
+}
+
+/// "message count; 16 x (location, value, thread); 4 x (thread)"
+pub fn machine_from(bytes: &[u8; MACHINE]) -> Machine {
+    let mut take = Take(bytes);
+    let mut memory = Memory { count: take.byte(), ..Memory::default() };
+    for index in 0..16 {
+        [memory.location[index], memory.value[index], memory.thread[index]] = take.bytes();
+    }
+    Machine { memory, thread: std::array::from_fn(|_| thread_from(&mut take)) }
+}
+
+/// "position; 8 x (value, view); 16 x coherence view; 16 x (forward time, forward view); rOld,
+/// wOld, rNew, wNew, CAP, Rel; promises, low byte first"
+fn thread_from(take: &mut Take) -> Thread {
+    Thread {
+        position: take.byte(),
+        register: std::array::from_fn(|_| Register { value: take.byte(), view: take.byte() }),
+        coherence: take.bytes(),
+        forward: std::array::from_fn(|_| Forward { time: take.byte(), view: take.byte() }),
+        r_old: take.byte(),
+        w_old: take.byte(),
+        r_new: take.byte(),
+        w_new: take.byte(),
+        cap: take.byte(),
+        rel: take.byte(),
+        promises: u16::from_le_bytes(take.bytes()),
+    }
+}
+
+pub fn machine_bytes(machine: &Machine) -> [u8; MACHINE] {
+    let memory = &machine.memory;
+    let mut bytes = vec![memory.count];
+    for index in 0..16 {
+        bytes.extend([memory.location[index], memory.value[index], memory.thread[index]]);
+    }
+    for thread in &machine.thread {
+        bytes.push(thread.position);
+        bytes.extend(thread.register.iter().flat_map(|register| [register.value, register.view]));
+        bytes.extend(thread.coherence);
+        bytes.extend(thread.forward.iter().flat_map(|pair| [pair.time, pair.view]));
+        bytes.extend([thread.r_old, thread.w_old, thread.r_new, thread.w_new, thread.cap, thread.rel]);
+        bytes.extend(thread.promises.to_le_bytes());
+    }
+    bytes.try_into().expect("the parts make up the length")
+}
+
+/// A step as its record in a trace file.
+pub fn step_bytes(step: &crate::step::Step) -> [u8; 6] {
+    [0x53, 0x54, step.kind, step.thread, step.a, step.b]
+}

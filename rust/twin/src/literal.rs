@@ -1,0 +1,63 @@
+//! The search in the paper's words: every execution time and all 16 times 256 promises are tried.
+//! It is slow, and it is what the quick search is held to.
+
+use std::ops::ControlFlow;
+
+use crate::machine::{complete, holds, Machine};
+use crate::program::Program;
+use crate::search::{Found, Verdict};
+use crate::step::{accepted, Step};
+
+struct Literal<'a> {
+    program: &'a Program,
+    budget: u32,
+    count: u32,
+    trace: Vec<Step>,
+}
+
+/// The answer of the search on a program, with its trace if "allowed".
+pub fn search(program: &Program, budget: u32) -> Found {
+    let mut literal = Literal { program, budget, count: 0, trace: Vec::new() };
+    let verdict = match literal.visit(&Machine::default()) {
+        ControlFlow::Continue(()) => Verdict::Forbidden,
+        ControlFlow::Break(verdict) => verdict,
+    };
+    let trace = if verdict == Verdict::Allowed { literal.trace } else { Vec::new() };
+    Found { verdict, count: literal.count, trace }
+}
+
+impl Literal<'_> {
+    /// "An accepted sequence comes before its extensions".
+    fn visit(&mut self, machine: &Machine) -> ControlFlow<Verdict> {
+        // "every sequence visited, the empty one first, costs one"
+        if self.count == self.budget {
+            return ControlFlow::Break(Verdict::NotFinished);
+        }
+        self.count += 1;
+        if complete(self.program, machine) && holds(self.program, machine) {
+            return ControlFlow::Break(Verdict::Allowed);
+        }
+        // "threads ascending; within one, executions by time ascending, then promises by location,
+        // then value"
+        for thread in 0..self.program.threads {
+            for time in 0..=16 {
+                self.go_on(machine, Step { kind: 0, thread, a: time, b: 0 })?;
+            }
+            for location in 0..16 {
+                for value in 0..=255 {
+                    self.go_on(machine, Step { kind: 1, thread, a: location, b: value })?;
+                }
+            }
+        }
+        ControlFlow::Continue(())
+    }
+
+    fn go_on(&mut self, machine: &Machine, step: Step) -> ControlFlow<Verdict> {
+        if let Ok(next) = accepted(self.program, machine, step) {
+            self.trace.push(step);
+            self.visit(&next)?;
+            self.trace.pop();
+        }
+        ControlFlow::Continue(())
+    }
+}

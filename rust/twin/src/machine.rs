@@ -1,0 +1,173 @@
+//! "The machine": memory, threads, the outcome question, and the machine's well-formedness.
+
+use crate::program::Program;
+
+/// "a list of messages (location, value, thread) at times 1, 2, .. up to 16"; time t is entry t - 1.
+#[derive(Clone, Copy, PartialEq, Eq, Debug, Default)]
+pub struct Memory {
+    pub count: u8,
+    pub location: [u8; 16],
+    pub value: [u8; 16],
+    pub thread: [u8; 16],
+}
+
+/// "eight registers, each a value and a view".
+#[derive(Clone, Copy, PartialEq, Eq, Debug, Default)]
+pub struct Register {
+    pub value: u8,
+    pub view: u8,
+}
+
+/// "a forward pair (time, view) per location".
+#[derive(Clone, Copy, PartialEq, Eq, Debug, Default)]
+pub struct Forward {
+    pub time: u8,
+    pub view: u8,
+}
+
+/// "All starts at 0 and empty."
+#[derive(Clone, Copy, PartialEq, Eq, Debug, Default)]
+pub struct Thread {
+    pub position: u8,
+    pub register: [Register; 8],
+    pub coherence: [u8; 16],
+    pub forward: [Forward; 16],
+    pub r_old: u8,
+    pub w_old: u8,
+    pub r_new: u8,
+    pub w_new: u8,
+    pub cap: u8,
+    pub rel: u8,
+    /// "a set of at most 16 times": bit t - 1 for time t.
+    pub promises: u16,
+}
+
+#[derive(Clone, Copy, PartialEq, Eq, Debug, Default)]
+pub struct Machine {
+    pub memory: Memory,
+    pub thread: [Thread; 4],
+}
+
+impl Memory {
+    /// The times at which the location has a message: bit t for time t, and bit 0 since
+    /// "time 0 holds value 0 at every location".
+    #[inline]
+    pub fn times_of(&self, location: u8) -> u32 {
+        let mut times = 0;
+        for index in 0..16 {
+            times |= u32::from(self.location[index] == location) << (index + 1);
+        }
+        times & ((2 << self.count) - 1) | 1
+    }
+
+    /// The value at a time, 0 at time 0.
+    #[inline]
+    pub fn value_at(&self, time: u8) -> u8 {
+        if time == 0 {
+            0
+        } else {
+            self.value[(time - 1) as usize & 15]
+        }
+    }
+
+    /// "the message is appended"; the caller knows that fewer than 16 stand.
+    #[inline]
+    pub fn append(&mut self, location: u8, value: u8, thread: u8) -> u8 {
+        let index = self.count as usize & 15;
+        self.location[index] = location;
+        self.value[index] = value;
+        self.thread[index] = thread;
+        self.count += 1;
+        self.count
+    }
+
+    /// Takes the newest message back.
+    #[inline]
+    pub fn take_back(&mut self) {
+        self.count -= 1;
+        let index = self.count as usize & 15;
+        self.location[index] = 0;
+        self.value[index] = 0;
+        self.thread[index] = 0;
+    }
+
+    /// "A location's last value is that of its newest message, 0 if there is none."
+    pub fn last_value(&self, location: u8) -> u8 {
+        self.value_at(31 - self.times_of(location).leading_zeros() as u8)
+    }
+}
+
+impl Thread {
+    #[inline]
+    pub fn has_promised(&self, time: u8) -> bool {
+        time > 0 && time <= 16 && self.promises >> (time - 1) & 1 == 1
+    }
+
+    #[inline]
+    pub fn promise(&mut self, time: u8) {
+        self.promises |= 1 << (time - 1);
+    }
+
+    /// "The promise is taken out".
+    #[inline]
+    pub fn take_out(&mut self, time: u8) {
+        self.promises &= !(1 << (time - 1));
+    }
+}
+
+/// "every thread is at its end with no promise left".
+pub fn complete(program: &Program, machine: &Machine) -> bool {
+    (0..program.threads as usize).all(|number| {
+        let thread = &machine.thread[number];
+        thread.position == program.code[number].count && thread.promises == 0
+    })
+}
+
+/// "All conditions must hold; none at all is true."
+pub fn holds(program: &Program, machine: &Machine) -> bool {
+    program.condition[..program.conditions as usize].iter().all(|condition| {
+        let value = match condition.kind {
+            0 => machine.thread[condition.thread as usize].register[condition.index as usize].value,
+            _ => machine.memory.last_value(condition.index),
+        };
+        value == condition.value
+    })
+}
+
+/// Whether this is a machine of the well-formed program.
+pub fn well_formed(program: &Program, machine: &Machine) -> bool {
+    memory_well_formed(program, &machine.memory)
+        && (0..4).all(|number| {
+            let thread = &machine.thread[number];
+            if number < program.threads as usize {
+                thread_well_formed(thread, number as u8, program.code[number].count, &machine.memory)
+            } else {
+                *thread == Thread::default()
+            }
+        })
+}
+
+/// "at most 16 messages with location below 16 and an existing thread", "unused entries 0".
+fn memory_well_formed(program: &Program, memory: &Memory) -> bool {
+    memory.count <= 16
+        && (0..16).all(|index| {
+            let (location, thread) = (memory.location[index], memory.thread[index]);
+            if index < memory.count as usize {
+                location < 16 && thread < program.threads
+            } else {
+                (location, memory.value[index], thread) == (0, 0, 0)
+            }
+        })
+}
+
+/// "every view and forward time at most the message count; positions within the thread;
+/// promises only at this thread's messages".
+fn thread_well_formed(thread: &Thread, number: u8, instructions: u8, memory: &Memory) -> bool {
+    let views = [thread.r_old, thread.w_old, thread.r_new, thread.w_new, thread.cap, thread.rel];
+    let own = |time: u8| time <= memory.count && memory.thread[time as usize - 1] == number;
+    thread.position <= instructions
+        && views.iter().chain(&thread.coherence).all(|&view| view <= memory.count)
+        && thread.register.iter().all(|register| register.view <= memory.count)
+        && thread.forward.iter().all(|pair| pair.time.max(pair.view) <= memory.count)
+        && (1..=16).all(|time| !thread.has_promised(time) || own(time))
+}

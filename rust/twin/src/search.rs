@@ -1,0 +1,200 @@
+//! The quick search: the order and the counts of the literal one. It tries only times that the
+//! rules allow and only promises that a run could store, certifies only where a promise is
+//! outstanding, and changes one machine in place, without a cache.
+
+use std::ops::ControlFlow;
+
+use crate::candidates::{possible_stores, Plan};
+use crate::certify::quickly;
+use crate::machine::{holds, Machine, Memory, Thread};
+use crate::program::Program;
+use crate::rules::{local, Instr, Load, Store};
+use crate::step::Step;
+
+/// "allowed", "forbidden" or "not finished".
+#[derive(Clone, Copy, PartialEq, Eq, Debug)]
+pub enum Verdict {
+    Allowed,
+    Forbidden,
+    NotFinished,
+}
+
+/// "The search answers verdict, count and number of trace steps", here with the steps.
+#[derive(Clone, PartialEq, Eq, Debug)]
+pub struct Found {
+    pub verdict: Verdict,
+    pub count: u32,
+    pub trace: Vec<Step>,
+}
+
+/// No sequence is longer than the instructions and the stores of a program: 64 and 16.
+const LONGEST: usize = 80;
+
+struct Search<'a> {
+    program: &'a Program,
+    plans: &'a [Plan],
+    machine: Machine,
+    budget: u32,
+    count: u32,
+    trace: [Step; LONGEST],
+    length: usize,
+}
+
+/// The answer of the search on a program, with its trace if "allowed".
+pub fn search(program: &Program, budget: u32) -> Found {
+    let plans: Vec<Plan> = program.code[..program.threads as usize].iter().map(Plan::new).collect();
+    let mut search = Search {
+        program,
+        plans: &plans,
+        machine: Machine::default(),
+        budget,
+        count: 0,
+        trace: [Step::default(); LONGEST],
+        length: 0,
+    };
+    let verdict = match search.visit() {
+        ControlFlow::Continue(()) => Verdict::Forbidden,
+        ControlFlow::Break(verdict) => verdict,
+    };
+    let length = if verdict == Verdict::Allowed { search.length } else { 0 };
+    Found { verdict, count: search.count, trace: search.trace[..length].to_vec() }
+}
+
+impl<'a> Search<'a> {
+    /// "every sequence visited, the empty one first, costs one"
+    fn visit(&mut self) -> ControlFlow<Verdict> {
+        if self.count == self.budget {
+            return ControlFlow::Break(Verdict::NotFinished);
+        }
+        self.count += 1;
+        let mut complete = true;
+        for number in 0..self.plans.len() {
+            let thread = &self.machine.thread[number];
+            complete &= thread.position == self.plans[number].count() && thread.promises == 0;
+        }
+        if complete {
+            return self.completed();
+        }
+        for number in 0..self.plans.len() {
+            self.executions(number)?;
+            self.promises(number)?;
+        }
+        ControlFlow::Continue(())
+    }
+
+    /// A complete sequence has no extension.
+    fn completed(&self) -> ControlFlow<Verdict> {
+        if holds(self.program, &self.machine) {
+            ControlFlow::Break(Verdict::Allowed)
+        } else {
+            ControlFlow::Continue(())
+        }
+    }
+
+    /// "executions by time ascending"
+    #[inline]
+    fn executions(&mut self, number: usize) -> ControlFlow<Verdict> {
+        let thread = self.machine.thread[number];
+        let plan: &'a Plan = &self.plans[number];
+        if thread.position == plan.count() {
+            return ControlFlow::Continue(());
+        }
+        match plan.instr(thread.position) {
+            Instr::Load { mode, into, left, right } => {
+                let load = Load::of(&thread, mode, into, left, right);
+                let times = load.times(&thread, &self.machine.memory);
+                self.each_time(number, times, |next, memory, time| load.done(next, memory, time))
+            }
+            Instr::Store { release, address, data } => {
+                let store = Store::of(&thread, release, address, data);
+                let times = store.times(&thread, &self.machine.memory);
+                self.each_time(number, times, |next, _, time| store.done(next, time))
+            }
+            // "An instruction that is neither load nor store executes at time 0 only."
+            instr => self.each_time(number, 1, |next, _, _| local(&instr, next)),
+        }
+    }
+
+    /// Executes at each of the times that pass, bit t for time t.
+    #[inline]
+    fn each_time(
+        &mut self,
+        number: usize,
+        mut times: u32,
+        done: impl Fn(&mut Thread, &Memory, u8),
+    ) -> ControlFlow<Verdict> {
+        let thread = self.machine.thread[number];
+        while times != 0 {
+            let time = times.trailing_zeros() as u8;
+            times &= times - 1;
+            let mut next = thread;
+            done(&mut next, &self.machine.memory, time);
+            self.executed(number, &thread, &next, time)?;
+        }
+        ControlFlow::Continue(())
+    }
+
+    /// Goes on from an executed instruction if the thread is certified, and takes it back.
+    #[inline]
+    fn executed(&mut self, number: usize, before: &Thread, next: &Thread, time: u8) -> ControlFlow<Verdict> {
+        if !quickly(&self.plans[number], number as u8, next, &mut self.machine.memory) {
+            return ControlFlow::Continue(());
+        }
+        self.machine.thread[number] = *next;
+        self.go_on(Step { kind: 0, thread: number as u8, a: time, b: 0 })?;
+        self.machine.thread[number] = *before;
+        ControlFlow::Continue(())
+    }
+
+    /// "then promises by location, then value": none where every store left is promised already.
+    #[inline]
+    fn promises(&mut self, number: usize) -> ControlFlow<Verdict> {
+        let Thread { position, promises, .. } = self.machine.thread[number];
+        let plan: &'a Plan = &self.plans[number];
+        let spent = promises.count_ones() >= u32::from(plan.stores_left(position));
+        if spent || self.machine.memory.count >= 16 {
+            return ControlFlow::Continue(());
+        }
+        let Some(stores) = plan.constant(position) else {
+            return self.possible_promises(number);
+        };
+        for &(location, value) in stores {
+            self.promise(number, location, value)?;
+        }
+        ControlFlow::Continue(())
+    }
+
+    fn possible_promises(&mut self, number: usize) -> ControlFlow<Verdict> {
+        let (thread, memory) = (&self.machine.thread[number], &self.machine.memory);
+        let stores = possible_stores(&self.plans[number], thread, memory);
+        for location in 0..16 {
+            for value in stores.values[location as usize].iter() {
+                self.promise(number, location, value)?;
+            }
+        }
+        ControlFlow::Continue(())
+    }
+
+    /// Goes on from a promise if the thread is certified on the memory with it, and takes it back.
+    fn promise(&mut self, number: usize, location: u8, value: u8) -> ControlFlow<Verdict> {
+        let before = self.machine.thread[number].promises;
+        let time = self.machine.memory.append(location, value, number as u8);
+        self.machine.thread[number].promise(time);
+        let thread = self.machine.thread[number];
+        if quickly(&self.plans[number], number as u8, &thread, &mut self.machine.memory) {
+            self.go_on(Step { kind: 1, thread: number as u8, a: location, b: value })?;
+        }
+        self.machine.thread[number].promises = before;
+        self.machine.memory.take_back();
+        ControlFlow::Continue(())
+    }
+
+    #[inline]
+    fn go_on(&mut self, step: Step) -> ControlFlow<Verdict> {
+        self.trace[self.length] = step;
+        self.length += 1;
+        self.visit()?;
+        self.length -= 1;
+        ControlFlow::Continue(())
+    }
+}

@@ -1,0 +1,83 @@
+//! One step: "accepted if its rule allows it and the stepping thread is then certified".
+//! "Steps are tested in the order of their numbers."
+
+use crate::certify;
+use crate::machine::{self, Machine};
+use crate::program::{self, Program};
+use crate::rules::{decode, execute};
+
+/// "kind, thread, a, b": kind 0 executes at time a, kind 1 promises location a, value b.
+#[derive(Clone, Copy, PartialEq, Eq, Debug, Default)]
+pub struct Step {
+    pub kind: u8,
+    pub thread: u8,
+    pub a: u8,
+    pub b: u8,
+}
+
+/// The step on any values: refusals 20 to 29.
+pub fn step(program: &Program, machine: &Machine, step: Step) -> Result<Machine, u8> {
+    if !well_formed(program, machine) {
+        return Err(20);
+    }
+    accepted(program, machine, step)
+}
+
+/// 20: "program or state value not well formed".
+pub fn well_formed(program: &Program, machine: &Machine) -> bool {
+    program::well_formed(program) && machine::well_formed(program, machine)
+}
+
+/// The step on well-formed values: refusals 21 to 29.
+pub fn accepted(program: &Program, machine: &Machine, step: Step) -> Result<Machine, u8> {
+    if step.thread >= program.threads {
+        return Err(21);
+    }
+    if step.kind > 1 || step.kind == 0 && step.b != 0 {
+        return Err(22);
+    }
+    let next = if step.kind == 1 { promised(machine, step)? } else { executed(program, machine, step)? };
+    let number = step.thread as usize;
+    if !certify::certified(&program.code[number], step.thread, &next.thread[number], &next.memory) {
+        return Err(29);
+    }
+    Ok(next)
+}
+
+/// "the message is appended and its time added to the promises; the position stays".
+fn promised(machine: &Machine, step: Step) -> Result<Machine, u8> {
+    if step.a > 15 {
+        return Err(23);
+    }
+    if machine.memory.count >= 16 {
+        return Err(24);
+    }
+    let mut next = *machine;
+    let time = next.memory.append(step.a, step.b, step.thread);
+    next.thread[step.thread as usize].promise(time);
+    Ok(next)
+}
+
+fn executed(program: &Program, machine: &Machine, step: Step) -> Result<Machine, u8> {
+    let number = step.thread as usize;
+    let (thread, code) = (&machine.thread[number], &program.code[number]);
+    if thread.position >= code.count {
+        return Err(25);
+    }
+    let instr = decode(&code.instructions[thread.position as usize]);
+    let mut next = *machine;
+    next.thread[number] = execute(&instr, thread, &machine.memory, step.a)?;
+    Ok(next)
+}
+
+/// Certification as a call: "20, then 21; certification has no other".
+pub fn certify(program: &Program, machine: &Machine, thread: u8) -> Result<bool, u8> {
+    if !well_formed(program, machine) {
+        return Err(20);
+    }
+    if thread >= program.threads {
+        return Err(21);
+    }
+    let number = thread as usize;
+    Ok(certify::certified(&program.code[number], thread, &machine.thread[number], &machine.memory))
+}
