@@ -3,6 +3,7 @@
 ghost use mathlib.Core.Path.{_≡_};
 ghost use Prim.Native.Nat.{_≤_, _<_};
 ghost use Rattle.program.specs.Counts.{storesFrom};
+ghost use Rattle.step.specs.Order.{execution, promise};
 ghost use Rattle.certify.specs.Answers.{Ready};
 ghost use Rattle.listing.proofs.Keys.{keyPromise};
 ghost use Rattle.visits.specs.Visits.{stepAt, Next};
@@ -15,25 +16,37 @@ use machine::merge::larger;
 use program::Code;
 use step::TraceStep;
 
+fn execution(i: u8, t: u8) -> TraceStep
+    ensures { λ r. ⌜ r ≡ execution i t ⌝ }
+{
+    TraceStep {
+        kind: 0,
+        thread: i,
+        a: t,
+        b: 0,
+    }
+}
+
+fn promise(i: u8, l: u8, v: u8) -> TraceStep
+    ensures { λ r. ⌜ r ≡ promise i l v ⌝ }
+{
+    TraceStep {
+        kind: 1,
+        thread: i,
+        a: l,
+        b: v,
+    }
+}
+
 pub fn step_at(i: u8, k: u16) -> TraceStep
     requires { ⌜ k < 4113 ⌝ }
     ensures { λ r. ⌜ r ≡ stepAt i k ⌝ }
 {
     if k < 17 {
-        return TraceStep {
-            kind: 0,
-            thread: i,
-            a: k as u8,
-            b: 0,
-        };
+        return execution(i, k as u8);
     }
     let n = k - 17;
-    TraceStep {
-        kind: 1,
-        thread: i,
-        a: (n / 256) as u8,
-        b: (n % 256) as u8,
-    }
+    promise(i, (n / 256) as u8, (n % 256) as u8)
 }
 
 // The stores at position n and after it.

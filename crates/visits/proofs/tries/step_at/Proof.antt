@@ -1,31 +1,51 @@
--- `search::tries::step_at` meets its contract.
+-- `visits::tries::step_at` meets its contract.
 -- Assumes nothing.
 use Rattle.visits.proofs.Worth.{at-time, at-key}
+use mathlib.Core.Path.{_∙_}
 use borrow.Author.Needs.{needs}
 use Rattle.visits.proofs.tries.step_at.Statement.{statement}
 use Rattle.visits.proofs.tries.step_at.Tie as tie
 use Rattle.visits.proofs.tries.step_at.Reads as reads
 use Rattle.visits.proofs.tries.step_at.Lts as lts
+use Rattle.visits.proofs.tries.execution.Reads as execution-reads
+use Rattle.visits.proofs.tries.promise.Reads as promise-reads
 
--- src/tries.rt:25:16
-cast-t5 : tie.Need-cast-t5
-cast-t5 c = search needs
+-- src/tries.rt:46:29
+cast-execution : tie.Need-cast-execution
+cast-execution c = search needs
 
--- src/tries.rt:22:9
+-- src/tries.rt:46:9
+execution-requires : tie.Need-execution-requires
+execution-requires c κs = search needs
+
+-- src/tries.rt:46:9
 returns : tie.Need-returns
-returns c = at-time _ _ (c .if1 .taken)
+returns c = c .execution .ensures ∙ at-time _ _ (c .before .if1 .taken)
 
--- src/tries.rt:33:12
-cast-t7 : tie.Need-cast-t7
-cast-t7 c = search needs
+-- src/tries.rt:49:16
+cast-promise : tie.Need-cast-promise
+cast-promise c = search needs
 
--- src/tries.rt:34:12
-cast-t9 : tie.Need-cast-t9
-cast-t9 c = search needs
+-- src/tries.rt:49:33
+cast-promise-2 : tie.Need-cast-promise-2
+cast-promise-2 c = search needs
 
--- src/tries.rt:17:1
+-- src/tries.rt:49:5
+promise-requires : tie.Need-promise-requires
+promise-requires c κs = search needs
+
+-- src/tries.rt:41:1
 returns-2 : tie.Need-returns-2
-returns-2 c = at-key _ _ (c .if1 .left)
+returns-2 c = c .promise .ensures ∙ at-key _ _ (c .before .if1 .left)
 
 pub step-at-spec : {M : Type 1} → statement M
-step-at-spec = tie.close (tie.spec cast-t5 returns cast-t7 cast-t9 returns-2)
+step-at-spec =
+    tie.close
+    (tie.spec
+    cast-execution
+    execution-requires
+    returns
+    cast-promise
+    cast-promise-2
+    promise-requires
+    returns-2)
