@@ -1,12 +1,13 @@
 -- What the code of the outcome question relies on: a location's last value looked for from the newest message on; conditions of a well-formed program.
 -- Assumes nothing.
 use mathlib.Core.Path.{_≡_, refl, sym, ap, ap₂, _∙_, subst}
-use mathlib.Core.Bool.{cond, _&&_}
+use mathlib.Core.Bool.{Bool, true, false, cond, _&&_, _||_}
 use Prim.Native.Nat.{ℕ, zero, suc, _-_, _≤_, _<_}
 use native.Mathlib.Omega.{arith}
 use lib.Dec.{T, eqb, ltb, ltb→lt}
 use lib.ListN.{getD}
 use borrow.Author.Tests.{eq-eqb, ne-eqb}
+use Rattle.program.specs.Tests.{below}
 use Rattle.program.specs.Program.{noCondition, codeOf}
 use Rattle.program.specs.WellFormed.{conditionTest}
 use Rattle.program.proofs.Tests.{all-at}
@@ -16,10 +17,25 @@ use Rattle.machine.specs.WellFormed.{Formed}
 use Rattle.step.specs.Below.{Code, Condition, Program, Message, Memory, Register, Thread, Machine}
 use Rattle.step.specs.Outcome.{lastOf, lastValue, holds}
 
+and-true : (b : Bool) → (b && true) ≡ b
+and-true true = refl
+and-true false = refl
+
 -- ---- a thread that is done, read by value
 pub thread-done : (p : Program) (x : Machine) (i : ℕ) (s : Thread) (c : Code) → s ≡ threadOf x i → c ≡ codeOf p i
     → (eqb (s .position) (c .count) && eqb (s .promises) 0) ≡ (eqb ((threadOf x i) .position) ((codeOf p i) .count) && eqb ((threadOf x i) .promises) 0)
 thread-done p x i s c d e = ap₂ (λ (s : Thread) (c : Code). eqb (s .position) (c .count) && eqb (s .promises) 0) d e
+
+-- four tests, each passed where there is no such thread
+pub all-four : (f : ℕ → Bool) (n : ℕ) → n ≤ 4 → {a b c d : Bool} → a ≡ f 0 → b ≡ f 1 → c ≡ f 2 → d ≡ f 3
+    → ((ltb n 4 || d) && ((ltb n 3 || c) && ((ltb n 2 || b) && (ltb n 1 || a)))) ≡ below f n
+unfolding below
+all-four f zero h e0 e1 e2 e3 = refl
+all-four f (suc zero) h e0 e1 e2 e3 = rw e0 (sym (and-true (f 0)))
+all-four f (suc (suc zero)) h e0 e1 e2 e3 = rw (e0, e1, and-true (f 0))
+all-four f (suc (suc (suc zero))) h e0 e1 e2 e3 = rw (e0, e1, e2, and-true (f 0))
+all-four f (suc (suc (suc (suc zero)))) h e0 e1 e2 e3 = rw (e0, e1, e2, e3, and-true (f 0))
+all-four f (suc (suc (suc (suc (suc n))))) h e0 e1 e2 e3 = absurd (omega arith)
 
 -- ---- the last value: no message after time t is at l
 pub record Older (m : Memory) (l t : ℕ) : Type 0 where

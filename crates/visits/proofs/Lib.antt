@@ -2,5 +2,6 @@ pub mod Ranges
 pub mod Parts
 pub mod Skipped
 pub mod Telling
+pub mod Sets
 pub mod Worth
 pub mod Turns

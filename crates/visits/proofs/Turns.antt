@@ -34,6 +34,7 @@ use Rattle.listing.specs.Listing.{stepping}
 use Rattle.listing.proofs.Keys.{keyPromise}
 use Rattle.visits.specs.Visits.{Ran, Going, Found, Out, visiting, trying, Tells, Ready, stepAt, Next}
 use Rattle.listing.proofs.Machine.{lawful}
+use Rattle.visits.specs.Worthwhile.{Attempts, Worth}
 use Rattle.visits.proofs.Ranges.{steps-from, next-step, at-end, stepsOf, threads-from, all-threads, next-thread, by-number}
 use Rattle.visits.proofs.Parts.{visiting-is, none-left, is-wanted, not-wanted, no-step, two-parts, step-refused, step-accepted}
 use Rattle.visits.proofs.Skipped.{no-more-threads, passed-over}
@@ -156,9 +157,10 @@ pub record AtThread (p : Program) (x : Machine) (d left : ℕ) (old : List ℕ) 
   pub stands : BeforeThread p x (visiting p x left) i rest
 
 -- before step k of thread i, which has code c and state s
-pub record AtStep (p : Program) (x : Machine) (d left : ℕ) (old : List ℕ) (m : Memory) (i : ℕ) (c : Code) (s : Thread) (area : List ℕ) (rest k : ℕ) : Type 0 where
+pub record AtStep (p : Program) (x : Machine) (d left : ℕ) (old : List ℕ) (m : Memory) (i : ℕ) (c : Code) (s : Thread) (t : Attempts) (area : List ℕ) (rest k : ℕ) : Type 0 where
   pub ready : Ready p x d old
   pub here : Here c m s p x i
+  pub worth : Worth c m s t
   pub in-program : i < p .threads
   pub in-range : k ≤ 4113
   pub same : area ≡ old
@@ -193,12 +195,13 @@ module _ {p : Program} {x : Machine} {d left : ℕ} {old : List ℕ} {m : Memory
     pub thread-ready : i < p .threads → (c : Code) (s : Thread) → c ≡ codeOf p i → s ≡ threadOf x i → certified.Ready c m s
     thread-ready h c s e f = rw (e, f, T .memory) (ready-here p x (T .ready .well) i h)
 
-    pub first : i < p .threads → (c : Code) (s : Thread) → c ≡ codeOf p i → s ≡ threadOf x i → (k : ℕ) → Next stepAt 4113 c m s 0 k → AtStep p x d left area m i c s area rest k
-    first h c s e f k nx =
+    pub first : i < p .threads → (c : Code) (s : Thread) → c ≡ codeOf p i → s ≡ threadOf x i → (t : Attempts) → Worth c m s t → (k : ℕ) → Next stepAt 4113 c m s 0 k → AtStep p x d left area m i c s t area rest k
+    first h c s e f t w k nx =
         let g : Here c m s p x i = record { code = sym e; memory = sym (T .memory); thread = sym f } in
         record {
           ready = subst (Ready p x d) (sym (T .same)) (T .ready);
           here = g;
+          worth = w;
           in-program = h;
           in-range = nx .within;
           same = refl;
@@ -211,8 +214,8 @@ module _ {p : Program} {x : Machine} {d left : ℕ} {old : List ℕ} {m : Memory
         (record { answer = refl; lent = T .same })
 
     -- all steps of the thread are done
-    pub leaves : {c : Code} {s : Thread} {area' : List ℕ} {rest' k : ℕ} → AtStep p x d left area m i c s area' rest' k → 4113 ≤ k → AtThread p x d left old m area' rest' (i + 1)
-    leaves {c} {s} {area'} {rest'} {k} U h =
+    pub leaves : {c : Code} {s : Thread} {t : Attempts} {area' : List ℕ} {rest' k : ℕ} → AtStep p x d left area m i c s t area' rest' k → 4113 ≤ k → AtThread p x d left old m area' rest' (i + 1)
+    leaves {c} {s} {t} {area'} {rest'} {k} U h =
         record {
           ready = T .ready;
           memory = T .memory;
@@ -226,7 +229,7 @@ module _ {p : Program} {x : Machine} {d left : ℕ} {old : List ℕ} {m : Memory
     pub answers : {r : Ran} {new : List ℕ} → Tells d (visiting p x left) r area new → Tells d (visiting p x left) r old new
     answers {r} {new} t = subst (λ (a : List ℕ). Tells d (visiting p x left) r a new) (T .same) t
 
-  module _ {i : ℕ} {c : Code} {s : Thread} {area : List ℕ} {rest k : ℕ} (U : AtStep p x d left old m i c s area rest k) where
+  module _ {i : ℕ} {c : Code} {s : Thread} {t : Attempts} {area : List ℕ} {rest k : ℕ} (U : AtStep p x d left old m i c s t area rest k) where
     pub step-ready : certified.Ready c m s
     step-ready =
         let h = U .here in
@@ -236,11 +239,12 @@ module _ {p : Program} {x : Machine} {d left : ℕ} {old : List ℕ} {m : Memory
 
     -- on to the next try, with b left
     pub on : (b rest' k' : ℕ) (mid new : List ℕ) → k < 4113 → BeforeStep p x (visiting p x left) i (k + 1) b × (mid ≡ area) → new ≡ mid → rest' ≡ b
-        → Next stepAt 4113 c m s (k + 1) k' → AtStep p x d left old m i c s new rest' k'
+        → Next stepAt 4113 c m s (k + 1) k' → AtStep p x d left old m i c s t new rest' k'
     on b rest' k' mid new l w e f nx =
         record {
           ready = U .ready;
           here = U .here;
+          worth = U .worth;
           in-program = U .in-program;
           in-range = nx .within;
           same = e ∙ w .1 ∙ U .same;
@@ -283,14 +287,14 @@ module _ {p : Program} {x : Machine} {d left : ℕ} {old : List ℕ} {m : Memory
         pub ready-below : Ready p y (d + 1) area
         ready-below = subst (Ready p y (d + 1)) (sym (U .same)) ready-old
 
-        module _ (a : Ran) (mid : List ℕ) (t : Tells (d + 1) (visiting p y rest) a area mid) where
+        module _ (a : Ran) (mid : List ℕ) (below : Tells (d + 1) (visiting p y rest) a area mid) where
           pub goes-on : (b : ℕ) → a ≡ Going b → BeforeStep p x (visiting p x left) i (k + 1) b × (mid ≡ area)
-          goes-on b f = went-below p x i k rest l (U .stands) y is-accepted (d + 1) b a area mid t f
+          goes-on b f = went-below p x i k rest l (U .stands) y is-accepted (d + 1) b a area mid below f
 
           pub runs-out : a ≡ Out → Tells d (visiting p x left) Out old mid
-          runs-out f = subst (λ (v : List ℕ). Tells d (visiting p x left) Out v mid) (U .same) (out-below p x i k rest l (U .stands) y is-accepted d a area mid t f)
+          runs-out f = subst (λ (v : List ℕ). Tells d (visiting p x left) Out v mid) (U .same) (out-below p x i k rest l (U .stands) y is-accepted d a area mid below f)
 
           pub finds : (b n : ℕ) → a ≡ Found b n → (new : List ℕ) → new ≡ put (d * 6) (stepBytes k') mid → Tells d (visiting p x left) (Found b n) old new
           finds b n f new g =
               subst (λ (v : List ℕ). Tells d (visiting p x left) (Found b n) v new) (U .same)
-              (found-below p x i k rest l (U .stands) y is-accepted d b n a area mid new ready-below t f k' e g)
+              (found-below p x i k rest l (U .stands) y is-accepted d b n a area mid new ready-below below f k' e g)

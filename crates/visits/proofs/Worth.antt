@@ -1,14 +1,14 @@
--- What the code of the next step worth a try relies on, on plain values.
+-- What the code of the next step worth a try relies on, on plain values: numbers of steps, stores that are left, what a thread can try.
 -- Assumes nothing.
 use mathlib.Core.Path.{_≡_, refl, sym, ap, subst, _∙_}
 use mathlib.Core.Bool.{Bool, true, false, cond}
 use mathlib.Core.Option.{none, some}
-use Prim.Native.Nat.{ℕ, zero, suc, max, _+_, _-_, _/_, _%_, _≤_, _<_}
+use Prim.Native.Nat.{ℕ, zero, suc, _+_, _-_, _/_, _%_, _≤_, _<_}
 use native.Mathlib.Decide.{decLt}
 use native.Mathlib.Omega.{arith}
 use lib.Count.{ones}
-use lib.Dec.{eqb}
-use borrow.Author.Tests.{lt-ltb, le-ltb}
+use lib.Dec.{T, eqb, ltb}
+use borrow.Author.Tests.{lt-ltb, le-ltb, ltb-false}
 use Rattle.program.specs.declared.Code.{Code}
 use Rattle.program.specs.declared.Instruction.{Instruction}
 use Rattle.program.specs.declared.Instr.{Instr}
@@ -20,7 +20,6 @@ use Rattle.machine.specs.declared.Thread.{Thread}
 use Rattle.machine.specs.declared.Machine.{Machine}
 use Rattle.machine.specs.State.{threadOf}
 use Rattle.machine.specs.Rules.{next, execute}
-use Rattle.certify.specs.Answers.{Only}
 use Rattle.candidates.specs.declared.Possible.{Possible}
 use Rattle.candidates.specs.Answers.{Covers}
 use Rattle.candidates.specs.Answers as possible
@@ -29,6 +28,7 @@ use Rattle.step.specs.Order.{execution}
 use Rattle.step.specs.Answers.{Here}
 use Rattle.listing.proofs.Keys.{keyPromise}
 use Rattle.visits.specs.Visits.{stepAt, Next}
+use Rattle.visits.specs.Worthwhile.{Attempts, AtZero, Later, After, timely, Worth, NextTime}
 use Rattle.visits.proofs.Skipped.{no-instruction, no-such-time, no-store-left, not-possible}
 
 -- ---- numbers of steps
@@ -74,20 +74,78 @@ counted-more c n r k v o inv l e f =
 pub counted-all : (c : Code) (n r k : ℕ) → (r + storesFrom c k ≡ storesFrom c n) × (r ≤ k) → c .count ≤ k → r ≡ storesFrom c n
 counted-all c n r k inv l = let i0 = inv .0 in let e = stores-end c k l in omega arith
 
+-- ---- what a thread can try
 module _ (c : Code) (m : Memory) (s : Thread) where
-  -- ---- promises
-  full-in : storesFrom c (s .position) ≤ ones (s .promises) → (p : Program) (x : Machine) (i : ℕ) → Here c m s p x i
-      → storesFrom (codeOf p i) ((threadOf x i) .position) ≤ ones ((threadOf x i) .promises)
-  full-in full p x i h = rw (h .code, h .thread) full
+  no-promise : storesFrom c (s .position) ≤ ones (s .promises) → (p : Program) (x : Machine) (i : ℕ) → Here c m s p x i → (n : ℕ) → taken (step p x (keyPromise i n)) ≡ none
+  no-promise full p x i h n = no-store-left p x i (n / 256) (n % 256) (rw (h .code, h .thread) full)
 
-  pub none-left : (from : ℕ) → storesFrom c (s .position) ≤ ones (s .promises) → Next keyPromise 4096 c m s from 4096
-  none-left from full =
+  -- a thread at its end tries nothing
+  pub nothing-left : c .count ≤ s .position → Worth c m s (record { zero = false; later = 0; promises = false })
+  nothing-left e =
+      let z = stores-end c (s .position) e in
       record {
-        within = omega arith;
-        after = λ l. l;
-        refused = λ p x i h k l u. no-store-left p x i (k / 256) (k % 256) (full-in full p x i h);
+        times = λ p x i g k l. no-instruction p x i k (rw (g .code, g .thread) e);
+        promises = λ l. no-promise (omega arith);
       }
 
+  -- what the next instruction and the stores that are left give
+  pub what-is-worth : (y : Instr) → instrAt c (s .position) ≡ some y → (z : Bool) → AtZero y z → (r : ℕ) → Later y m s r → (n : ℕ)
+      → n ≡ storesFrom c (s .position) → Worth c m s (record { zero = z; later = r; promises = ltb (ones (s .promises)) n })
+  what-is-worth y is-next z zero-only r later-only n e =
+      record {
+        times = λ p x i g k l. no-such-time p x i y (rw (g .code, g .thread) is-next) k (λ s' q. never k l s' (subst (λ (v : Thread). execute y m k v ≡ next s') (g .thread) (subst (λ (n : Memory). execute y n k (threadOf x i) ≡ next s') (g .memory) q)));
+        promises = λ f. let few = ltb-false (ones (s .promises)) n f in no-promise (omega arith);
+      }
+    where
+      never : (k : ℕ) → timely (record { zero = z; later = r; promises = ltb (ones (s .promises)) n }) k ≡ false → (s' : Thread) → execute y m k s ≡ next s' → ⊥
+      never zero l s' q = zero-only l m s s' q
+      never (suc k) l s' q = subst T l (later-only (suc k) s' (omega arith) q)
+
+-- ---- the next of them
+module _ {t : Attempts} where
+  pub at-zero-now : t .zero ≡ true → NextTime t 0 0
+  at-zero-now e = record { within = omega arith; after = λ l. omega arith; others = λ u l h. absurd (omega arith) }
+
+  pub after-zero : t .zero ≡ false → (r : ℕ) → After (t .later) 0 r → NextTime t 0 r
+  after-zero e r a = record { within = a .within; after = λ l. omega arith; others = λ u l h. go u h }
+    where
+      go : (u : ℕ) → u < r → timely t u ≡ false
+      go zero h = e
+      go (suc u) h = a .between (suc u) (omega arith) h
+
+  pub after-time : (k r : ℕ) → (k ≡ 0 → ⊥) → After (t .later) (k - 1) r → NextTime t k r
+  after-time k r n a = let l = a .later in record { within = a .within; after = λ _. omega (arith, n); others = λ u l h. go u l h }
+    where
+      go : (u : ℕ) → k ≤ u → u < r → timely t u ≡ false
+      go zero l h = absurd (n (omega arith))
+      go (suc u) l h = a .between (suc u) (omega (arith, n)) h
+
+module _ (c : Code) (m : Memory) (s : Thread) (t : Attempts) (w : Worth c m s t) where
+  pub none-promised : (from : ℕ) → t .promises ≡ false → Next keyPromise 4096 c m s from 4096
+  none-promised from e = record { within = omega arith; after = λ l. l; refused = λ p x i h k l u. w .promises e p x i h k }
+
+  -- at a time
+  pub at-a-time : (from k : ℕ) → from < 17 → NextTime t from k → k < 17 → Next stepAt 4113 c m s from k
+  at-a-time from k h nt l =
+      record {
+        within = omega arith;
+        after = λ _. nt .after (omega arith);
+        refused = λ p x i g j a u. ap (λ (y : Step). taken (step p x y)) (sym (at-time i j (omega arith))) ∙ w .times p x i g j (nt .others j a u);
+      }
+
+  -- no time is left, so on to the promises
+  pub after-times : (from k n : ℕ) → from < 17 → NextTime t from k → 17 ≤ k → Next keyPromise 4096 c m s 0 n → Next stepAt 4113 c m s from (n + 17)
+  after-times from k n h nt l nx =
+      record {
+        within = let a = nx .within in omega arith;
+        after = λ _. omega arith;
+        refused = λ p x i g j a u. elim (decLt j 17) [
+          | yes b ↦ ap (λ (y : Step). taken (step p x y)) (sym (at-time i j b)) ∙ w .times p x i g j (nt .others j a (omega arith))
+          | no b ↦ ap (λ (y : Step). taken (step p x y)) (sym (at-key i j (omega arith))) ∙ nx .refused p x i g (j - 17) (omega arith) (omega arith)
+        ];
+      }
+
+module _ (c : Code) (m : Memory) (s : Thread) where
   pub next-possible : (r : Possible) → Covers c m s r → (from n : ℕ) → possible.Next r from n → Next keyPromise 4096 c m s from n
   next-possible r all from n nx =
       record {
@@ -98,7 +156,6 @@ module _ (c : Code) (m : Memory) (s : Thread) where
             not-possible p x i r (rw (h .code, h .memory, h .thread) all) (k / 256) (k % 256) (λ q. let v = nx .least k (omega arith) l q in omega arith);
       }
 
-  -- ---- any step
   pub past-times : (from n : ℕ) → 17 ≤ from → Next keyPromise 4096 c m s (from - 17) n → Next stepAt 4113 c m s from (n + 17)
   past-times from n h nx =
       record {
@@ -106,45 +163,3 @@ module _ (c : Code) (m : Memory) (s : Thread) where
         after = λ l. let a : from - 17 ≤ n = nx .after (omega arith) in omega arith;
         refused = λ p x i g k l u. ap (λ (y : Step). taken (step p x y)) (sym (at-key i k (omega arith))) ∙ nx .refused p x i g (k - 17) (omega arith) (omega arith);
       }
-
-  at-most-times : (from n : ℕ) → from < 17 → ((p : Program) (x : Machine) (i : ℕ) → Here c m s p x i → (k : ℕ) → from ≤ k → k < 17 → taken (step p x (execution i k)) ≡ none)
-      → Next keyPromise 4096 c m s 0 n → Next stepAt 4113 c m s from (n + 17)
-  at-most-times from n h times nx =
-      record {
-        within = let w = nx .within in omega arith;
-        after = λ l. omega arith;
-        refused = λ p x i g k l u. elim (decLt k 17) [
-          | yes a ↦ ap (λ (y : Step). taken (step p x y)) (sym (at-time i k a)) ∙ times p x i g k l a
-          | no a ↦ ap (λ (y : Step). taken (step p x y)) (sym (at-key i k (omega arith))) ∙ nx .refused p x i g (k - 17) (omega arith) (omega arith)
-        ];
-      }
-
-  -- a thread at its end
-  pub at-its-end : (from : ℕ) → from < 17 → c .count ≤ s .position → Next stepAt 4113 c m s from 4113
-  at-its-end from h e =
-      let z = stores-end c (s .position) e in
-      at-most-times from 4096 h (λ p x i g k l u. no-instruction p x i k (rw (g .code, g .thread) e)) (none-left 0 (omega arith))
-
-  module _ (y : Instr) (is-next : instrAt c (s .position) ≡ some y) (first last : ℕ) (only : Only y m s first last) (from t : ℕ) (e : t ≡ max from first) where
-    not-before : (p : Program) (x : Machine) (i : ℕ) → Here c m s p x i → (k : ℕ) → from ≤ k → k < t → taken (step p x (execution i k)) ≡ none
-    not-before p x i g k l u =
-        no-such-time p x i y (rw (g .code, g .thread) is-next) k
-        (λ s' q. only .before k s' (omega arith) (subst (λ (v : Thread). execute y m k v ≡ next s') (g .thread) (subst (λ (n : Memory). execute y n k (threadOf x i) ≡ next s') (g .memory) q)))
-
-    pub at-a-time : t ≤ last → last ≤ 16 → Next stepAt 4113 c m s from t
-    at-a-time l b =
-        record {
-          within = omega arith;
-          after = λ _. omega arith;
-          refused = λ p x i g k j u. ap (λ (z : Step). taken (step p x z)) (sym (at-time i k (omega arith))) ∙ not-before p x i g k j u;
-        }
-
-    not-after : (p : Program) (x : Machine) (i : ℕ) → Here c m s p x i → (k : ℕ) → last < k → taken (step p x (execution i k)) ≡ none
-    not-after p x i g k u =
-        no-such-time p x i y (rw (g .code, g .thread) is-next) k
-        (λ s' q. only .after k s' u (subst (λ (v : Thread). execute y m k v ≡ next s') (g .thread) (subst (λ (n : Memory). execute y n k (threadOf x i) ≡ next s') (g .memory) q)))
-
-    pub after-times : (n : ℕ) → from < 17 → last < t → Next keyPromise 4096 c m s 0 n → Next stepAt 4113 c m s from (n + 17)
-    after-times n h l nx =
-        at-most-times from n h
-        (λ p x i g k j u. elim (decLt k t) [ yes a ↦ not-before p x i g k j a | no a ↦ not-after p x i g k (omega arith) ]) nx

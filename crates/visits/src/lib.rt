@@ -1,4 +1,5 @@
 // The visits: a state, then each state that an accepted step leads to. The trace is written on the way back.
+mod times;
 mod tries;
 
 ghost use mathlib.Core.Path.{_≡_};
@@ -15,6 +16,7 @@ use step::outcome::asked;
 use step::thread_step;
 use tries::next_try;
 use tries::step_at;
+use tries::tries_of;
 
 // How far a visit has come: on, with so much of the budget left; at a wanted sequence of so many steps, with so much left; or
 // at a sequence with nothing left.
@@ -22,6 +24,13 @@ pub enum Ran {
     Going(u32),
     Found(u32, usize),
     Out,
+}
+
+// What is worth a try of a thread: its next instruction at time 0 and at the times of a set, and promises.
+pub struct Attempts {
+    pub zero: bool,
+    pub later: u16,
+    pub promises: bool,
 }
 
 // The six bytes of step k, at a place.
@@ -55,7 +64,8 @@ pub fn visit(p: Program, x: Machine, depth: usize, left: u32, area: &mut [u8]) -
     while i < p.threads {
         let c = p.codes[i as usize];
         let s = x.threads[i as usize];
-        let mut k = next_try(c, m, s, 0);
+        let t = tries_of(c, m, s);
+        let mut k = next_try(t, c, m, s, 0);
         while k < 4113 {
             let step = step_at(i, k);
             let r = thread_step(c, m, s, step);
@@ -71,7 +81,7 @@ pub fn visit(p: Program, x: Machine, depth: usize, left: u32, area: &mut [u8]) -
                     Ran::Out => return Ran::Out,
                 }
             }
-            k = next_try(c, m, s, k + 1);
+            k = next_try(t, c, m, s, k + 1);
         }
         i += 1;
     }

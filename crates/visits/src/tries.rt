@@ -7,12 +7,15 @@ ghost use Rattle.step.specs.Order.{execution, promise};
 ghost use Rattle.certify.specs.Answers.{Ready};
 ghost use Rattle.listing.proofs.Keys.{keyPromise};
 ghost use Rattle.visits.specs.Visits.{stepAt, Next};
+ghost use Rattle.visits.specs.Worthwhile.{Worth, NextTime};
+use crate::Attempts;
+use crate::times::after;
+use crate::times::at_zero;
+use crate::times::later_times;
 use candidates::least::next_store;
 use candidates::pass::possible_stores;
-use certify::worth_trying;
 use machine::Memory;
 use machine::Thread;
-use machine::merge::larger;
 use program::Code;
 use step::TraceStep;
 
@@ -63,33 +66,62 @@ fn stores_from(c: Code, n: u8) -> u8
     r
 }
 
-// The next promise that is possible, by 256 · l + v; none if each store that is left has its promise.
-fn next_promise(c: Code, m: Memory, s: Thread, from: u16) -> u16
+// What is worth a try of a thread: time 0, later times, promises; none of these if each store that is left has its promise.
+pub fn tries_of(c: Code, m: Memory, s: Thread) -> Attempts
     requires { ⌜ Ready c m s ⌝ }
+    ensures { λ r. ⌜ Worth c m s r ⌝ }
+{
+    let n = s.position;
+    if c.count <= n {
+        return Attempts {
+            zero: false,
+            later: 0,
+            promises: false,
+        };
+    }
+    let x = c.instr_at(n);
+    Attempts {
+        zero: at_zero(x),
+        later: later_times(x, m, s),
+        promises: u16::count_ones(s.promises) < stores_from(c, n) as u32,
+    }
+}
+
+fn next_time(t: Attempts, from: u8) -> u8
+    requires { ⌜ from ≤ 17 ⌝ }
+    ensures { λ r. ⌜ NextTime t from r ⌝ }
+{
+    if from == 0 {
+        if t.zero {
+            return 0;
+        }
+        return after(t.later, 0);
+    }
+    after(t.later, from - 1)
+}
+
+// The next promise that is worth a try, by 256 · l + v, or 4096.
+fn next_promise(t: Attempts, c: Code, m: Memory, s: Thread, from: u16) -> u16
+    requires { ⌜ Ready c m s × Worth c m s t ⌝ }
     ensures { λ r. ⌜ Next keyPromise 4096 c m s from r ⌝ }
 {
-    if stores_from(c, s.position) as u32 <= u16::count_ones(s.promises) {
-        return 4096;
+    if t.promises {
+        return next_store(possible_stores(c, m, s), from);
     }
-    next_store(possible_stores(c, m, s), from)
+    4096
 }
 
 // The next step that is worth a try.
-pub fn next_try(c: Code, m: Memory, s: Thread, from: u16) -> u16
-    requires { ⌜ Ready c m s ⌝ }
+pub fn next_try(t: Attempts, c: Code, m: Memory, s: Thread, from: u16) -> u16
+    requires { ⌜ Ready c m s × Worth c m s t ⌝ }
     ensures { λ r. ⌜ Next stepAt 4113 c m s from r ⌝ }
 {
     if 17 <= from {
-        return next_promise(c, m, s, from - 17) + 17;
+        return next_promise(t, c, m, s, from - 17) + 17;
     }
-    let n = s.position;
-    if c.count <= n {
-        return 4113;
+    let k = next_time(t, from as u8);
+    if k < 17 {
+        return k as u16;
     }
-    let w = worth_trying(c.instr_at(n), m, s);
-    let t = larger(from as u8, w.first);
-    if t <= w.last {
-        return t as u16;
-    }
-    next_promise(c, m, s, 0) + 17
+    next_promise(t, c, m, s, 0) + 17
 }

@@ -1,36 +1,100 @@
--- `step::outcome::complete` meets its contract: the loop has tested the first i threads.
+-- `step::outcome::complete` meets its contract.
 -- Assumes nothing.
-use mathlib.Core.Bool.{_&&_}
-use Prim.Native.Nat.{_-_}
-use native.Mathlib.Omega.{arith}
-use lib.Dec.{eqb}
-use Rattle.program.specs.Program.{codeOf}
-use Rattle.program.proofs.Loops.{Passed, passed-none, passed-more, passed-all}
-use Rattle.machine.specs.State.{threadOf}
-use Rattle.certify.proofs.Asked.{of-four}
+use Rattle.step.proofs.Ending.{thread-done, all-four}
 use Rattle.step.specs.Outcome.{complete}
-use Rattle.step.proofs.Ending.{thread-done}
+use Rattle.certify.proofs.Asked.{program-facts}
+use Rattle.machine.specs.State.{threadOf}
+use Rattle.program.proofs.Arrays.{length-mapped, getD-any}
+use Rattle.program.specs.Program.{codeOf}
+use lib.ListN.{length}
+use lib.Dec.{eqb}
+use native.Mathlib.Omega.{arith}
+use mathlib.Core.Bool.{_&&_}
+use mathlib.Core.Path.{_≡_, _∙_}
+use borrow.Author.Needs.{needs}
 use Rattle.step.proofs.outcome.complete.Statement.{statement}
 use Rattle.step.proofs.outcome.complete.Tie as tie
+use Rattle.step.proofs.outcome.complete.Reads as reads
+use Rattle.step.proofs.outcome.complete.Lts as lts
+use Rattle.step.proofs.outcome.thread_done.Reads as thread-done-reads
 
-abbrev Inv-loop : tie.InvT-loop
-Inv-loop p x n ok₀ i₀ ok i = Passed (λ j. eqb ((threadOf x j) .position) ((codeOf p j) .count) && eqb ((threadOf x j) .promises) 0) n i ok
+-- src/outcome.rt:28:35
+element-copy-out-thread-done : tie.Need-element-copy-out-thread-done
+element-copy-out-thread-done c = search needs
 
-abbrev μ-loop : tie.MeasureT-loop
-μ-loop p x n ok₀ i₀ ok i = n - i
+-- src/outcome.rt:28:47
+element-copy-out-thread-done-2 : tie.Need-element-copy-out-thread-done-2
+element-copy-out-thread-done-2 c = search needs
 
-thread-of-requires : tie.Need-thread-of-requires Inv-loop μ-loop
-thread-of-requires c κs = of-four _ _ (c .before .before .pre) _ (c .loop-test .taken)
+-- src/outcome.rt:28:23
+thread-done-requires : tie.Need-thread-done-requires
+thread-done-requires c κs = search needs
 
-code-of-requires : tie.Need-code-of-requires Inv-loop μ-loop
-code-of-requires c κs = of-four _ _ (c .before .before .before .pre) _ (c .before .loop-test .taken)
+-- src/outcome.rt:29:35
+element-copy-out-thread-done-3 : tie.Need-element-copy-out-thread-done-3
+element-copy-out-thread-done-3 c = search needs
 
-loop-again : tie.Need-loop-again Inv-loop μ-loop
-loop-again c = let b = c .before .before .before in let start = b .before .before .before .before in passed-more (b .before .before .before .loop .inv) (b .before .before .loop-test .taken) (thread-done (start .args .p) (start .args .x) _ _ _ (b .before .thread-of .ensures) (b .code-of .ensures))
+-- src/outcome.rt:29:47
+element-copy-out-thread-done-4 : tie.Need-element-copy-out-thread-done-4
+element-copy-out-thread-done-4 c = search needs
 
-returns : tie.Need-returns Inv-loop μ-loop
-unfolding complete
-returns c = passed-all (c .before .loop .inv) (c .loop-test .left)
+-- src/outcome.rt:29:23
+thread-done-requires-2 : tie.Need-thread-done-requires-2
+thread-done-requires-2 c κs = search needs
+
+-- src/outcome.rt:30:35
+element-copy-out-thread-done-5 : tie.Need-element-copy-out-thread-done-5
+element-copy-out-thread-done-5 c = search needs
+
+-- src/outcome.rt:30:47
+element-copy-out-thread-done-6 : tie.Need-element-copy-out-thread-done-6
+element-copy-out-thread-done-6 c = search needs
+
+-- src/outcome.rt:30:23
+thread-done-requires-3 : tie.Need-thread-done-requires-3
+thread-done-requires-3 c κs = search needs
+
+-- src/outcome.rt:31:35
+element-copy-out-thread-done-7 : tie.Need-element-copy-out-thread-done-7
+element-copy-out-thread-done-7 c = search needs
+
+-- src/outcome.rt:31:47
+element-copy-out-thread-done-8 : tie.Need-element-copy-out-thread-done-8
+element-copy-out-thread-done-8 c = search needs
+
+-- src/outcome.rt:31:23
+thread-done-requires-4 : tie.Need-thread-done-requires-4
+thread-done-requires-4 c κs = search needs
+
+-- src/outcome.rt:23:1
+returns : tie.Need-returns
+unfolding complete codeOf
+returns c =
+    let a = c .before .before .before .before .before .before .before .before .before .before .before .before .args in
+    let p = a .t1 in
+    let x = a .t2 in
+    let codes : length (p .codes) ≡ 4 = search length-mapped depth 7 in
+    let threads : length (x .threads) ≡ 4 = search length-mapped depth 7 in
+    all-four (λ i. eqb ((threadOf x i) .position) ((codeOf p i) .count) && eqb ((threadOf x i) .promises) 0) (p .threads) (program-facts _ _ (c .before .before .before .before .before .before .before .before .before .before .before .before .pre) .few-threads)
+    (c .before .before .before .before .before .before .before .before .before .thread-done .ensures ∙ thread-done p x 0 _ _ (getD-any _ _ (x .threads) 0 (omega arith)) (getD-any _ _ (p .codes) 0 (omega arith)))
+    (c .before .before .before .before .before .before .thread-done2 .ensures ∙ thread-done p x 1 _ _ (getD-any _ _ (x .threads) 1 (omega arith)) (getD-any _ _ (p .codes) 1 (omega arith)))
+    (c .before .before .before .thread-done3 .ensures ∙ thread-done p x 2 _ _ (getD-any _ _ (x .threads) 2 (omega arith)) (getD-any _ _ (p .codes) 2 (omega arith)))
+    (c .thread-done4 .ensures ∙ thread-done p x 3 _ _ (getD-any _ _ (x .threads) 3 (omega arith)) (getD-any _ _ (p .codes) 3 (omega arith)))
 
 pub complete-spec : {M : Type 1} → statement M
-complete-spec = tie.close (tie.spec Inv-loop μ-loop (λ c. passed-none) thread-of-requires code-of-requires (λ c. omega arith) (λ c. omega arith) loop-again returns)
+complete-spec =
+    tie.close
+    (tie.spec
+    element-copy-out-thread-done
+    element-copy-out-thread-done-2
+    thread-done-requires
+    element-copy-out-thread-done-3
+    element-copy-out-thread-done-4
+    thread-done-requires-2
+    element-copy-out-thread-done-5
+    element-copy-out-thread-done-6
+    thread-done-requires-3
+    element-copy-out-thread-done-7
+    element-copy-out-thread-done-8
+    thread-done-requires-4
+    returns)
