@@ -4,17 +4,17 @@
  * Every call takes byte slices, each as a pointer and a length, and writes its answer into an area that the caller lends. It returns
  *
  *   0  the answer is written: exactly its bytes, at the start of the area; what lies behind them stays;
- *   1  the area is shorter than the answer: nothing is written;
+ *   1  the answer area is shorter than the answer: nothing is written, in no area;
  *   2  a program or machine value has another length than it should: nothing is written. (1 is tested first.)
  *
  * What is in the bytes does not matter: any file, trace, program value and machine value gets an answer. What is not well formed is
  * refused by a number in the answer. The caller owes what C asks of any pointer: each points to as many bytes as its length says,
- * also where that is 0 (not NULL), and the answer area overlaps none of the other slices.
+ * also where that is 0 (not NULL), and an area that is lent to be written overlaps none of the other slices.
  *
  * Numbers of more than one byte are little endian. Places, steps and indexes are 32 bits wide; from a file of 4 GiB or more they
  * are the low 32 bits of the number. Calls keep nothing between them, and may run at the same time on different areas.
  *
- * Refusals: 1 to 10 in a program file, 1 and 2 in a trace file, 20 to 29 of a step; 0 is none (docs/CONTRACTS.md has the table).
+ * Refusals: 1 to 10 in a program file, 1 and 2 in a trace file, 20 to 29 of a step, 30 of a search; 0 is none.
  */
 #ifndef BLYSKOTA_H
 #define BLYSKOTA_H
@@ -44,6 +44,10 @@ extern "C" {
 #define BLYSKOTA_STEP_ANSWER 342
 #define BLYSKOTA_CERTIFY_ANSWER 2
 #define BLYSKOTA_REPLAY_ANSWER 357
+#define BLYSKOTA_SEARCH_ANSWER 12
+
+/* The least trace area for a search: 6 bytes for each of the 80 steps that a trace has at most. */
+#define BLYSKOTA_TRACE 480
 
 /*
  * Reads a program file. Answer, 495 bytes: refusal (0 none), 3 zero bytes, place u32 (0 where nothing is refused), the program
@@ -68,6 +72,16 @@ uint32_t blyskota_certify(const uint8_t *program, size_t program_len, const uint
  * value after the steps.
  */
 uint32_t blyskota_replay(const uint8_t *file, size_t file_len, const uint8_t *trace, size_t trace_len, uint8_t *answer,
+                         size_t answer_len);
+
+/*
+ * Searches the accepted sequences of a program file in order, at most budget of them, for one that is complete with the asked
+ * outcome. Answer, 12 bytes: verdict (0 refused, 1 allowed, 2 forbidden, 3 not finished), refusal (0 none), steps (at most 80; 0
+ * unless allowed), 0, place u32 (0 unless refused), count u32 (the place of the sequence found, the number of all, or the budget; 0
+ * where refused). Where the verdict is allowed, the first 6 bytes per step of the lent area are the trace file of the sequence that
+ * was found, and what lies behind them stays; otherwise the whole area does. An area under 480 bytes is refused with 30.
+ */
+uint32_t blyskota_search(const uint8_t *file, size_t file_len, uint32_t budget, uint8_t *area, size_t area_len, uint8_t *answer,
                          size_t answer_len);
 
 #ifdef __cplusplus

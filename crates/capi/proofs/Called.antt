@@ -1,6 +1,6 @@
 -- What a call returns and leaves in the area, by the tests that led there.
 -- Assumes nothing.
-use mathlib.Core.Path.{_≡_, ap, _∙_}
+use mathlib.Core.Path.{_≡_, ap, ap₂, _∙_}
 use mathlib.Core.List.{List, _++_}
 use Prim.Native.Nat.{ℕ, _+_, _≤_, _<_}
 use native.Mathlib.Nat.{zero-add}
@@ -18,11 +18,13 @@ use Rattle.step.specs.Step.{Step, step}
 use Rattle.step.specs.Answers.{stepped}
 use Rattle.replay.specs.declared.Replayed.{Replayed}
 use Rattle.replay.specs.Answers.{replay}
+use Rattle.search.specs.declared.Answer.{Answer}
+use Rattle.search.specs.Answers.{Searched}
 use Rattle.values.specs.Lists.{put}
 use Rattle.program_value.specs.Value.{programOf}
 use Rattle.machine_value.specs.Value.{machineOf}
-use Rattle.capi.specs.Answers.{readBytes, steppedBytes, certifiedBytes, replayedBytes}
-use Rattle.capi.specs.Calls.{Called, called, answered, onArea, onValue, readCall, stepCall, certifyCall, replayCall}
+use Rattle.capi.specs.Answers.{readBytes, steppedBytes, certifiedBytes, replayedBytes, searchedBytes}
+use Rattle.capi.specs.Calls.{Called, called, answered, onArea, onValue, readCall, stepCall, certifyCall, replayCall, SearchCalled, searchCalled, searchCall}
 
 -- ---- an area that is too short, and one with room
 pub short : (n : ℕ) (a : List ℕ) (on : Called) → length a < n → called 1 a ≡ onArea n a on
@@ -50,6 +52,22 @@ read-answered f a a' r h e w = wrote (readBytes r) a a' w ∙ ap (λ (x : FileRe
 pub replay-answered : (f t a a' : List ℕ) (r : Replayed) → 357 ≤ length a → r ≡ replay f t → a' ≡ put 0 (replayedBytes r) a → called 0 a' ≡ replayCall f t a
 unfolding replayCall
 replay-answered f t a a' r h e w = wrote (replayedBytes r) a a' w ∙ ap (λ (x : Replayed). answered (replayedBytes x) a) e ∙ room 357 a _ h
+
+-- ---- the search, which is lent a trace area besides
+pub search-short : (f : List ℕ) (b : ℕ) (t a : List ℕ) → length a < 12 → searchCalled 1 a t ≡ searchCall f b t a
+unfolding searchCall
+search-short f b t a h = rw (lt-ltb _ _ h)
+
+-- the call with this much in the answer area, and the trace area
+both : List ℕ → Called → SearchCalled
+both t c = record { call = c; trace = t }
+
+pub search-answered : (f : List ℕ) (b : ℕ) (t t' a a' : List ℕ) (r : Answer) → 12 ≤ length a → Searched f b t r t' → a' ≡ put 0 (searchedBytes r) a → searchCalled 0 a' t' ≡ searchCall f b t a
+unfolding searchCall both
+search-answered f b t t' a a' r h s w =
+    ap₂ both
+    (s .lent ∙ rw (le-ltb _ _ h))
+    (wrote (searchedBytes r) a a' w ∙ ap (λ (x : Answer). answered (searchedBytes x) a) (s .answer) ∙ room 12 a _ h)
 
 -- ---- two values first
 module _ (n : ℕ) (p x a : List ℕ) (on : Called) (h : n ≤ length a) where

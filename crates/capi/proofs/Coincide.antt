@@ -1,10 +1,10 @@
--- Answers that meet a call's contract coincide: the number that is returned, and the whole area afterwards.
+-- Answers that meet a call's contract coincide: the number that is returned, and every area afterwards, as a whole.
 -- Assumes nothing.
 use mathlib.Core.Path.{_≡_, sym, ap, _∙_}
 use mathlib.Core.List.{List}
 use Prim.Native.Nat.{ℕ}
 use Rattle.step.specs.Step.{Step}
-use Rattle.capi.specs.Calls.{Called, called, readCall, stepCall, certifyCall, replayCall}
+use Rattle.capi.specs.Calls.{Called, called, readCall, stepCall, certifyCall, replayCall, SearchCalled, searchCalled, searchCall}
 
 same : (n n' : ℕ) (a a' : List ℕ) (c : Called) → called n a ≡ c → called n' a' ≡ c → (n ≡ n') × (a ≡ a')
 same n n' a a' c e e' = (ap (λ (x : Called). x .number) (e ∙ sym e'), ap (λ (x : Called). x .area) (e ∙ sym e'))
@@ -21,3 +21,11 @@ module _ (n n' : ℕ) (a a' area : List ℕ) where
 
   pub replay-coincide : (file trace : List ℕ) → called n a ≡ replayCall file trace area → called n' a' ≡ replayCall file trace area → (n ≡ n') × (a ≡ a')
   replay-coincide file trace = same n n' a a' (replayCall file trace area)
+
+  pub search-coincide : (file : List ℕ) (budget : ℕ) (t t' trace : List ℕ) → searchCalled n a t ≡ searchCall file budget trace area → searchCalled n' a' t' ≡ searchCall file budget trace area
+      → ((n ≡ n') × (a ≡ a')) × (t ≡ t')
+  search-coincide file budget t t' trace e e' =
+      let c = searchCall file budget trace area in (
+        same n n' a a' (c .call) (ap (λ (x : SearchCalled). x .call) e) (ap (λ (x : SearchCalled). x .call) e'),
+        ap (λ (x : SearchCalled). x .trace) (e ∙ sym e'),
+      )

@@ -14,6 +14,9 @@ use Rattle.step.specs.Answers.{refusalOf as stepRefusal}
 use Rattle.replay.specs.declared.ReplayAnswer.{ReplayAnswer}
 use Rattle.replay.specs.declared.ReplayAnswer.the-variants.{Good as ReplayGood, ProgramRefused, TraceRefused}
 use Rattle.replay.specs.declared.Replayed.{Replayed}
+use Rattle.search.specs.declared.Verdict.{Verdict}
+use Rattle.search.specs.declared.Verdict.the-variants.{Allowed, Forbidden, NotFinished, Refused as SearchRefused}
+use Rattle.search.specs.declared.Answer.{Answer}
 use Rattle.values.specs.Numbers.{word32}
 use Rattle.program_value.specs.Value.{programBytes}
 use Rattle.machine_value.specs.Value.{machineBytes}
@@ -71,3 +74,28 @@ replayedBytes r =
     ++ (word32 (replayIndex (r .answer))
     ++ (word32 (replayPlace (r .answer))
     ++ machineBytes (r .machine))))
+
+-- ---- search: verdict (0 refused, 1 allowed, 2 forbidden, 3 not finished), refusal, steps, 0, place u32, count u32; 12 bytes
+abbrev pub verdictByte : Verdict → ℕ
+verdictByte (SearchRefused n place) = 0
+verdictByte Allowed = 1
+verdictByte Forbidden = 2
+verdictByte NotFinished = 3
+
+abbrev pub searchRefusal : Verdict → ℕ
+searchRefusal (SearchRefused n place) = n
+searchRefusal Allowed = 0
+searchRefusal Forbidden = 0
+searchRefusal NotFinished = 0
+
+abbrev pub searchPlace : Verdict → ℕ
+searchPlace (SearchRefused n place) = place
+searchPlace Allowed = 0
+searchPlace Forbidden = 0
+searchPlace NotFinished = 0
+
+unfoldable pub searchedBytes : Answer → List ℕ
+searchedBytes r =
+    (verdictByte (r .verdict) ∷ searchRefusal (r .verdict) ∷ r .steps ∷ 0 ∷ [])
+    ++ (word32 (searchPlace (r .verdict))
+    ++ word32 (r .count))

@@ -1,4 +1,4 @@
--- What each call returns and leaves in the answer area, for every input.
+-- What each call returns and leaves in the areas that it is lent, for every input.
 -- Assumes nothing.
 use mathlib.Core.Bool.{cond}
 use mathlib.Core.List.{List, _++_}
@@ -11,9 +11,10 @@ use Rattle.certify.specs.Answers.{certification}
 use Rattle.step.specs.Step.{Step, step}
 use Rattle.step.specs.Answers.{stepped}
 use Rattle.replay.specs.Answers.{replay}
+use Rattle.search.specs.Answers.{answerOn, areaOn}
 use Rattle.program_value.specs.Value.{programOf}
 use Rattle.machine_value.specs.Value.{machineOf}
-use Rattle.capi.specs.Answers.{readBytes, steppedBytes, certifiedBytes, replayedBytes}
+use Rattle.capi.specs.Answers.{readBytes, steppedBytes, certifiedBytes, replayedBytes, searchedBytes}
 
 -- the number that a call returns, and the area after it
 pub record Called : Type 0 where
@@ -55,3 +56,19 @@ certifyCall p x i area =
 
 unfoldable pub replayCall : List ℕ → List ℕ → List ℕ → Called
 replayCall file trace area = onArea 357 area (answered (replayedBytes (replay file trace)) area)
+
+-- what the search's call returns and leaves in the answer area, and the trace area after it
+pub record SearchCalled : Type 0 where
+  pub call : Called
+  pub trace : List ℕ
+
+abbrev pub searchCalled : ℕ → List ℕ → List ℕ → SearchCalled
+searchCalled n area trace = record { call = called n area; trace = trace }
+
+-- an answer area that is too short: nothing is written in either area
+unfoldable pub searchCall : List ℕ → ℕ → List ℕ → List ℕ → SearchCalled
+searchCall file budget trace area =
+    record {
+      call = onArea 12 area (answered (searchedBytes (answerOn (readFile file) budget trace)) area);
+      trace = cond (ltb (length area) 12) trace (areaOn (readFile file) budget trace);
+    }

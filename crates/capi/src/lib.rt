@@ -1,10 +1,10 @@
 // The public calls on byte slices, for programs in C and Rust. Nothing is required of a caller. Each call returns 0; 1 where the
 // answer area is shorter than the answer; 2 where a program or machine value has another length than stated. On 1 and 2 nothing
-// is written; otherwise exactly the answer's bytes.
+// is written; otherwise exactly the answer's bytes, and by the search the trace that it found.
 mod put;
 
 ghost use mathlib.Core.Path.{_≡_};
-ghost use Rattle.capi.specs.Calls.{called, readCall, stepCall, certifyCall, replayCall};
+ghost use Rattle.capi.specs.Calls.{called, readCall, stepCall, certifyCall, replayCall, searchCalled, searchCall};
 use certify::certify;
 use machine_value::machine_of;
 use program::read;
@@ -12,8 +12,10 @@ use program_value::program_of;
 use put::put_certified;
 use put::put_read;
 use put::put_replayed;
+use put::put_searched;
 use put::put_stepped;
 use replay::replay;
+use search::search;
 use step::TraceStep;
 use step::step;
 
@@ -96,5 +98,22 @@ pub extern "C" fn blyskota_replay(file: &[u8], trace: &[u8], answer: &mut [u8]) 
         return 1;
     }
     put_replayed(answer, replay(file, trace));
+    0
+}
+
+// The search on a program file with a budget, and a trace area that is lent to it; 12 bytes.
+#[no_mangle]
+pub extern "C" fn blyskota_search(
+    file: &[u8],
+    budget: u32,
+    area: &mut [u8],
+    answer: &mut [u8],
+) -> u32
+    ensures { λ r. ⌜ searchCalled r (now (answer .exit)) (now (area .exit)) ≡ searchCall (now (file .entry)) budget (now (area .entry)) (now (answer .entry)) ⌝ }
+{
+    if answer.len() < 12 {
+        return 1;
+    }
+    put_searched(answer, search(file, budget, area));
     0
 }

@@ -6,7 +6,7 @@ ghost use lib.ListN.{length};
 ghost use Rattle.certify.specs.Answers.{refusalOf as certifyRefusal};
 ghost use Rattle.step.specs.Answers.{refusalOf as stepRefusal};
 ghost use Rattle.values.specs.Lists.{put};
-ghost use Rattle.capi.specs.Answers.{readRefusal, readPlace, readBytes, steppedBytes, certifiedByte, certifiedBytes, replayRefusal, replayFile, replayIndex, replayPlace, replayedBytes};
+ghost use Rattle.capi.specs.Answers.{readRefusal, readPlace, readBytes, steppedBytes, certifiedByte, certifiedBytes, replayRefusal, replayFile, replayIndex, replayPlace, replayedBytes, verdictByte, searchRefusal, searchPlace, searchedBytes};
 use certify::Certified;
 use machine_value::put_machine;
 use program::FileRead;
@@ -14,6 +14,8 @@ use program::ReadAnswer;
 use program_value::put_program;
 use replay::ReplayAnswer;
 use replay::Replayed;
+use search::Answer;
+use search::Verdict;
 use step::StepAnswer;
 use step::Stepped;
 use values::put_four;
@@ -161,4 +163,56 @@ pub fn put_replayed(area: &mut [u8], r: Replayed)
     put_u32(area, 8, replay_index(a));
     put_u32(area, 12, replay_place(a));
     put_machine(area, 16, r.machine);
+}
+
+// ---- search
+fn verdict_byte(v: Verdict) -> u8
+    ensures { λ r. ⌜ r ≡ verdictByte v ⌝ }
+{
+    match v {
+        Verdict::Refused(_, _) => 0,
+        Verdict::Allowed => 1,
+        Verdict::Forbidden => 2,
+        Verdict::NotFinished => 3,
+    }
+}
+
+fn search_refusal(v: Verdict) -> u8
+    ensures { λ r. ⌜ r ≡ searchRefusal v ⌝ }
+{
+    match v {
+        Verdict::Refused(n, _) => n,
+        Verdict::Allowed => 0,
+        Verdict::Forbidden => 0,
+        Verdict::NotFinished => 0,
+    }
+}
+
+fn search_place(v: Verdict) -> usize
+    ensures { λ r. ⌜ r ≡ searchPlace v ⌝ }
+{
+    match v {
+        Verdict::Refused(_, place) => place,
+        Verdict::Allowed => 0,
+        Verdict::Forbidden => 0,
+        Verdict::NotFinished => 0,
+    }
+}
+
+// No trace has more than 80 steps, so their number is a byte.
+pub fn put_searched(area: &mut [u8], r: Answer)
+    requires { ⌜ (12 ≤ length (now area)) × (r .steps ≤ 80) ⌝ }
+    ensures { λ _. ⌜ now (area .exit) ≡ put 0 (searchedBytes r) (now (area .entry)) ⌝ }
+{
+    let v = r.verdict;
+    put_four(
+        area,
+        0,
+        verdict_byte(v),
+        search_refusal(v),
+        r.steps as u8,
+        0,
+    );
+    put_u32(area, 4, search_place(v));
+    put_u32(area, 8, r.count as usize);
 }

@@ -4,10 +4,11 @@ use mathlib.Core.Path.{_≡_, refl, subst, _∙_}
 use mathlib.Core.Bool.{true, false}
 use mathlib.Core.List.{List, [], _∷_}
 use mathlib.Core.Option.{Option, none, some}
-use Prim.Native.Nat.{ℕ}
+use Prim.Native.Nat.{ℕ, _≤_}
 use native.Mathlib.Omega.{arith}
 use lib.ListN.{length}
 use Rattle.source.specs.declared.Program.{Program}
+use Rattle.source.specs.Counts.{size}
 use Rattle.source.specs.File.{program, readFile}
 use Rattle.machine.specs.declared.Machine.{Machine}
 use Rattle.machine.specs.State.{fresh}
@@ -23,7 +24,7 @@ use Rattle.replay.specs.InTurn.{InTurn, no-step, a-step}
 use Rattle.replay.proofs.Good.{in-turn-replayed, in-turn-holds}
 use Rattle.listing.specs.Listing.{stepping, sequencesOf, answerTo}
 use Rattle.listing.proofs.Machine.{taken-accepted}
-use Rattle.listing.proofs.Meaning.{listed, demand-3}
+use Rattle.listing.proofs.Meaning.{bound, listed, demand-3}
 
 some-same : {x y : Machine} → some x ≡ some y → x ≡ y
 some-same {x} {y} e = cc
@@ -45,6 +46,12 @@ wanted-run p q h = go (run (stepping p) fresh q) refl h
         → (y : Machine) × (run (stepping p) fresh q ≡ some y) × (asked p y ≡ true)
     go none e h = absurd (let z : _≡_ {A = ℕ} 0 1 = cc in omega arith)
     go (some y) e h = (y, e, h)
+
+-- the trace of an allowed answer has no more steps than the program has instructions and stores together
+pub found-short : (p : Program) (b n : ℕ) (q : List Step) → answerTo p b ≡ allowed n q → length q ≤ size p
+found-short p b n q e =
+    let w = wanted-run p q (demand-3 p b (sequencesOf p) (listed p) .allowed-then n q e .is-wanted) in
+    bound p q (w .0, w .1)
 
 -- FOUND REPLAYS: the trace of an allowed answer is good, and it is complete and the question holds
 pub found-replays : (f : List ℕ) (p : Program) → readFile f ≡ program p → (b n : ℕ) (q : List Step) → answerTo p b ≡ allowed n q

@@ -11,6 +11,7 @@ use lib.Seq.{take-at}
 use borrow.Author.Tests.{le-ltb}
 use Rattle.source.specs.declared.Program.{Program}
 use Rattle.source.specs.File.{FileAnswer, refused, program, readFile}
+use Rattle.source.proofs.ReadFormed.{read-formed}
 use Rattle.machine.specs.State.{fresh}
 use Rattle.sequences.specs.Sequences.{Listed, wanted}
 use Rattle.sequences.specs.Answer as sequences
@@ -22,7 +23,8 @@ use Rattle.listing.specs.Listing.{stepping, answerTo}
 use Rattle.listing.proofs.Meaning.{demand-3, more-budget-allowed, more-budget-forbidden}
 use Rattle.visits.proofs.Telling.{trace-length}
 use Rattle.search.specs.Answers.{Verdict, Allowed, Forbidden, NotFinished, Refused, Answer, answerOf, areaOf, refusal, answerOn, areaOn, Searched}
-use Rattle.search.proofs.Found.{found-replays}
+use Rattle.search.proofs.Told.{size-small}
+use Rattle.search.proofs.Found.{found-short, found-replays}
 
 -- answers that meet the contract coincide, lent memory included
 pub search-coincide : (f : List ℕ) (b : ℕ) (area : List ℕ) (r r' : Answer) (after after' : List ℕ) → Searched f b area r after → Searched f b area r' after' → (r ≡ r') × (after ≡ after')
@@ -85,6 +87,20 @@ untouched f b area r after s not = go (course f b area r after s)
     go (has-run p d (is-allowed n q a e g)) = absurd (not (ap verdict-of e))
     go (has-run p d (is-forbidden n a e g)) = g
     go (has-run p d (is-unfinished n a e g)) = g
+
+-- FEW STEPS: no trace has more than 80
+pub few-steps : (f : List ℕ) (b : ℕ) (area : List ℕ) (r : Answer) (after : List ℕ) → Searched f b area r after → r .steps ≤ 80
+few-steps f b area r after s = go (course f b area r after s)
+  where
+    go : Course f b area r after → r .steps ≤ 80
+    go (was-refused n place e g) = let k = ap (λ (y : Answer). y .steps) e in omega arith
+    go (has-run p d (is-allowed n q a e g)) =
+        let k : r .steps ≡ length q = ap (λ (y : Answer). y .steps) e in
+        let l = found-short p b n q a in
+        let m = size-small p (read-formed f p d) in
+        omega arith
+    go (has-run p d (is-forbidden n a e g)) = let k = ap (λ (y : Answer). y .steps) e in omega arith
+    go (has-run p d (is-unfinished n a e g)) = let k = ap (λ (y : Answer). y .steps) e in omega arith
 
 -- THE TRACE FOUND REPLAYS: the first 6 bytes a step of the area are a trace that is good and complete, and the question holds
 pub trace-replays : (f : List ℕ) (b : ℕ) (area : List ℕ) (r : Answer) (after : List ℕ) → Searched f b area r after → r .verdict ≡ Allowed

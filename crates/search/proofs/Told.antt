@@ -46,7 +46,7 @@ sixteen-each zero = refl
 sixteen-each (suc n) = let r = sixteen-each n in omega arith
 
 -- a program has at most 64 instructions and 16 stores
-size-small : (p : Program) → T (programTest p) → size p ≤ 80
+pub size-small : (p : Program) → T (programTest p) → size p ≤ 80
 unfolding size instructions
 size-small p h =
     let o = program-ok p h in

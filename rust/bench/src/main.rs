@@ -19,17 +19,11 @@ fn twin_search(file: &[u8], budget: u32) -> [u8; 12] {
     answer
 }
 
-#[cfg(feature = "library")]
 fn proved_search(file: &[u8], budget: u32) -> [u8; 12] {
     let (mut area, mut answer) = ([0; 480], [0; 12]);
     blyskota::calls::search(file, budget, &mut area, &mut answer);
     answer
 }
-
-#[cfg(feature = "library")]
-const PROVED: Option<Search> = Some(proved_search);
-#[cfg(not(feature = "library"))]
-const PROVED: Option<Search> = None;
 
 /// The answer and the best rate of a few rounds.
 fn rate(search: Search, file: &[u8]) -> ([u8; 12], f64) {
@@ -47,15 +41,8 @@ fn main() {
     println!("{:<18}{:>14}{:>14}{:>8}", "sequences/second", "twin", "proved", "ratio");
     for example in examples().iter().filter(|example| TIMED.contains(&example.name)) {
         let (answer, twin) = rate(twin_search, &example.file);
-        let Some(search) = PROVED else {
-            println!("{:<18}{twin:>14.0}{:>14}{:>8}", example.name, "-", "-");
-            continue;
-        };
-        let (proved_answer, proved) = rate(search, &example.file);
+        let (proved_answer, proved) = rate(proved_search, &example.file);
         assert_eq!(answer, proved_answer, "{}: the two searches answer differently", example.name);
         println!("{:<18}{twin:>14.0}{proved:>14.0}{:>8.2}", example.name, proved / twin);
-    }
-    if PROVED.is_none() {
-        println!("The twin alone: the archive target/staticlib/libcapi.a is not there (rt staticlib capi).");
     }
 }

@@ -139,11 +139,15 @@ pub fn certify(random: &mut Random) -> Call {
     Call::Certify { program, machine, thread }
 }
 
-/// Searches with small budgets; the lent area is now and then too short.
+/// Searches with small budgets and a few larger ones; the lent area is now and then too short.
 pub fn search(random: &mut Random) -> Call {
     let size = random.pick(&[SMALL, MIDDLE, MIDDLE, LARGE]);
     let file = if random.one_in(10) { any_file(random) } else { file(&program(random, size)) };
     let area = random.pick(&[480, 480, 480, 481, 600, 479, 0]);
-    let budget = if random.one_in(20) { 0 } else { u32::from(random.byte()) };
+    let budget = match random.below(20) {
+        0 => 0,
+        1 => (random.number() % 20_000) as u32,
+        _ => u32::from(random.byte()),
+    };
     Call::Search { file, budget, area }
 }
