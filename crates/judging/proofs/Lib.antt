@@ -1,0 +1,2 @@
+pub mod Budgets
+pub mod Room
