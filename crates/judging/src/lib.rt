@@ -26,8 +26,7 @@ fn at_end() -> bool {
     libc::read(STDIN_FILENO, &mut one) == 0
 }
 
-// Reads at most 4,096 bytes. A longer input has the answer of its first 4,096 bytes, since it has that of its first 648
-// (`long-file`, proofs/Long.antt).
+// Reads at most 4,096 bytes: a longer input has the same answer as its first 4,096 bytes (`long-answer`, proofs/Long.antt).
 fn judge_input(budget: u32) {
     let mut file = io::buffer();
     let n = io::read_full(STDIN_FILENO, &mut file);
