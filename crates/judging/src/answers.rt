@@ -33,7 +33,7 @@ fn step(kind: u8, thread: u8, a: u8, b: u8) {
     text(b"\n");
 }
 
-// The first n steps of the trace, each in six bytes after the mark's two.
+// The first n steps of the trace, six bytes each: the mark, kind, thread, a and b.
 fn steps(trace: &[u8], n: usize)
     requires { ⌜ 6 * n ≤ length (now trace) ⌝ }
 {
