@@ -1,0 +1,4 @@
+// The printing program with a budget that is one too small.
+fn main() {
+    judging::judge();
+}

@@ -1,0 +1,4 @@
+// The printing program on empty input.
+fn main() {
+    judging::judge();
+}

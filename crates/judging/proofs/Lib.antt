@@ -1,0 +1,3 @@
+pub mod Budgets
+pub mod Room
+pub mod Long
