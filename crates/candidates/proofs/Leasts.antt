@@ -169,10 +169,3 @@ next-least p k from r b c e l = least-as (Some k (Stored (p .stores))) (λ n. Po
         let p2 = q .listed in
         let h : q .place < k = ⊎-elim (λ (z : p .count ≤ k). omega arith) (λ (z : 16 ≤ k). omega arith) e in
         (q .place, h, q .is)
-
--- by location and value
-pub next-at : (p : Possible) (from r : ℕ) → Next p from r → (l v : ℕ) → l < 16 → v < 256 → from ≤ 256 * l + v → Possibly p l v → r ≤ 256 * l + v
-next-at p from r x l v a b h q =
-    let e1 : l ≡ (256 * l + v) / 256 = omega arith in
-    let e2 : v ≡ (256 * l + v) % 256 = omega arith in
-    x .least (256 * l + v) (omega arith) h (subst₂ (Possibly p) e1 e2 q)

@@ -3,9 +3,7 @@ mod checked;
 
 pub use checked::certify;
 ghost use mathlib.Core.Path.{_≡_};
-ghost use mathlib.Core.Option.{some};
 ghost use Prim.Native.Nat.{_+_, _-_, _≤_, _<_};
-ghost use Rattle.source.specs.Program.{instrAt};
 ghost use Rattle.machine.specs.Rules.{execute};
 ghost use Rattle.machine.specs.Answers.{storeMessage};
 ghost use Rattle.certify.specs.Certify.{anyFrom, messageOf, onward, ownMessage, certify};

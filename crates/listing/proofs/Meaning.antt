@@ -1,26 +1,22 @@
 -- What the list of sequences and the answer are: the list is all accepted sequences in order, the only such list, and demand 3 holds over it.
 -- Assumes nothing.
-use mathlib.Core.Path.{_≡_, subst}
-use mathlib.Core.List.{List, [], _∷_}
-use mathlib.Core.Option.{some}
+use mathlib.Core.Path.{_≡_}
+use mathlib.Core.List.{List}
 use Prim.Native.Nat.{ℕ, _≤_}
 use native.Mathlib.Omega.{arith}
 use lib.ListN.{length}
 use Rattle.source.specs.declared.Program.{Program}
 use Rattle.source.specs.Counts.{size}
-use Rattle.machine.specs.declared.Machine.{Machine}
 use Rattle.machine.specs.State.{fresh}
-use Rattle.sequences.specs.Sequences.{Accepted, Listed, run, wanted}
+use Rattle.sequences.specs.Sequences.{Accepted, Listed, wanted}
 use Rattle.sequences.specs.Answer.{Answer, allowed, forbidden, answer}
 use Rattle.sequences.specs.Demand.{Demand}
-use Rattle.sequences.proofs.Listed.{first-step}
 use Rattle.sequences.proofs.Listed as lists
 use Rattle.sequences.proofs.Meets as answers
-use Rattle.step.specs.Step.{Step, step}
-use Rattle.step.specs.Reached.{Reached, on}
+use Rattle.step.specs.Step.{Step}
 use Rattle.step.proofs.Bound.{potential, potential-fresh}
 use Rattle.listing.specs.Listing.{stepping, sequencesOf, answerTo}
-use Rattle.listing.proofs.Machine.{taken-accepted, lawful}
+use Rattle.listing.proofs.Machine.{lawful}
 
 fresh-bound : (p : Program) → potential p fresh ≤ size p
 fresh-bound p = let e = potential-fresh p in omega arith
@@ -57,11 +53,3 @@ more-budget-allowed p b c n q h e = answers.more-budget-allowed (wanted (steppin
 pub more-budget-forbidden : (p : Program) (b c n : ℕ) → b ≤ c → answerTo p b ≡ forbidden n → answerTo p c ≡ forbidden n
 unfolding answerTo
 more-budget-forbidden p b c n h e = answers.more-budget-forbidden (wanted (stepping p) fresh) (sequencesOf p) b c n h e
-
--- an accepted sequence from the fresh machine leads to a machine that is reached
-pub run-reached : (p : Program) (q : List Step) (x y : Machine) → Reached p x → run (stepping p) x q ≡ some y → Reached p y
-unfolding run
-run-reached p [] x y r e = let d : x ≡ y = cc in subst (Reached p) d r
-run-reached p (k ∷ q) x y r e =
-    let f = first-step (stepping p) x y k q e in
-    run-reached p q (f .0) y (on k (f .0) r (taken-accepted (step p x k) (f .0) (f .1))) (f .2)

@@ -1,6 +1,5 @@
 // Bytes from their hexadecimal digits, in lower case.
 ghost use mathlib.Core.Path.{_≡_};
-ghost use mathlib.Core.List.{[], _∷_};
 ghost use Prim.Native.Nat.{_+_, _*_, _/_, _≤_};
 ghost use lib.ListN.{length};
 ghost use Rattle.values.specs.Lists.{put};

@@ -2,13 +2,13 @@
 // specs/Counts.antt, or a part of one. A test of an array's length is not computed: an array always has its length.
 ghost use mathlib.Core.Path.{_≡_};
 ghost use mathlib.Core.Bool.{true, cond, _&&_};
-ghost use Prim.Native.Nat.{suc, _+_, _<_, _≤_};
-ghost use lib.Dec.{eqb, leb, ltb};
+ghost use Prim.Native.Nat.{_+_, _<_, _≤_};
+ghost use lib.Dec.{eqb, ltb};
 ghost use lib.ListN.{getD};
 ghost use Rattle.source.specs.Tests.{below};
 ghost use Rattle.source.specs.Program.{noCondition, instructionAt, codeOf};
 ghost use Rattle.source.specs.Counts.{oneStore, storesFrom, stores};
-ghost use Rattle.source.specs.WellFormed.{modeLimit, modeTest, registerTest, kindTest, numberTest, instructionTest, conditionTest, unusedInstruction, unusedCondition, codeTest, programTest};
+ghost use Rattle.source.specs.WellFormed.{instructionTest, conditionTest, unusedInstruction, unusedCondition, codeTest, programTest};
 use range::condition_fault;
 use range::instruction_fault;
 use source::Code;

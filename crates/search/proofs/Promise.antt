@@ -1,6 +1,6 @@
 -- What a caller may conclude from the contract of the search.
 -- Assumes nothing.
-use mathlib.Core.Path.{_≡_, refl, sym, ap, subst, _∙_}
+use mathlib.Core.Path.{_≡_, refl, sym, ap, _∙_}
 use mathlib.Core.Bool.{Bool, true, false, cond}
 use mathlib.Core.List.{List, _++_}
 use Prim.Native.Nat.{ℕ, _*_, _≤_}
@@ -22,7 +22,7 @@ use Rattle.replay.specs.Answers.{replay}
 use Rattle.listing.specs.Listing.{stepping, answerTo}
 use Rattle.listing.proofs.Meaning.{demand-3, more-budget-allowed, more-budget-forbidden}
 use Rattle.visits.proofs.Telling.{trace-length}
-use Rattle.search.specs.Answers.{Verdict, Allowed, Forbidden, NotFinished, Refused, Answer, answerOf, areaOf, refusal, answerOn, areaOn, Searched}
+use Rattle.search.specs.Answers.{Verdict, Allowed, Forbidden, NotFinished, Answer, answerOf, areaOf, refusal, answerOn, areaOn, Searched}
 use Rattle.search.proofs.Told.{size-small}
 use Rattle.search.proofs.Found.{found-short, found-replays}
 

@@ -1,8 +1,7 @@
 -- What the answer of the whole visit says: the answer to the question, and the area afterwards.
 -- Assumes nothing.
 use mathlib.Core.Path.{_≡_, refl, sym, ap, subst, _∙_}
-use mathlib.Core.Bool.{cond}
-use mathlib.Core.List.{List, [], _++_}
+use mathlib.Core.List.{List, _++_}
 use Prim.Native.Nat.{ℕ, zero, suc, _+_, _-_, _*_, _≤_, _<_}
 use native.Mathlib.Omega.{arith}
 use lib.Dec.{T}
@@ -18,7 +17,7 @@ use Rattle.source.specs.File.{FileAnswer, readFile}
 use Rattle.source.specs.Answers.{fileRead}
 use Rattle.source.specs.WellFormed.{programTest}
 use Rattle.source.proofs.Counts.{sum-le}
-use Rattle.source.proofs.Formed.{ProgramOk, program-ok}
+use Rattle.source.proofs.Formed.{program-ok}
 use Rattle.source.proofs.ReadFormed.{read-formed}
 use Rattle.machine.specs.State.{fresh}
 use Rattle.values.specs.Lists.{put}
@@ -27,7 +26,7 @@ use Rattle.sequences.specs.Answer as sequences
 use Rattle.sequences.proofs.Scan.{Scan, going, found, out, scan, told, answer-told, leftOf, left-le}
 use Rattle.step.specs.Step.{Step}
 use Rattle.step.specs.Trace.{traceBytes}
-use Rattle.step.proofs.Bound.{potential, potential-fresh}
+use Rattle.step.proofs.Bound.{potential-fresh}
 use Rattle.step.proofs.Kept.{fresh-formed}
 use Rattle.replay.proofs.Files.{read-good, read-refused}
 use Rattle.listing.specs.Listing.{stepping, sequencesOf, answerTo}

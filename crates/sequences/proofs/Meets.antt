@@ -168,8 +168,3 @@ module _ {A : Type 0} (wanted : List A → Bool) where
 pub demand-3 : (M : Stepping) (L : Lawful M) (n : ℕ) (s : M .State) → L .bound s ≤ n → (b : ℕ) (l : List (List (M .Step))) → Listed M s l
     → Demand (wanted M s) l b (answer (wanted M s) (upto M n s) b)
 demand-3 M L n s h b l i = rw (← only M L n s h l i) (meets (wanted M s) l b)
-
--- and no other answer meets it
-pub demand-3-only : (M : Stepping) (L : Lawful M) (n : ℕ) (s : M .State) → L .bound s ≤ n → (b : ℕ) (l : List (List (M .Step))) → Listed M s l
-    → (o : Answer (M .Step)) → Demand (wanted M s) l b o → o ≡ answer (wanted M s) (upto M n s) b
-demand-3-only M L n s h b l i o d = one-answer (wanted M s) l b o (answer (wanted M s) (upto M n s) b) d (demand-3 M L n s h b l i)

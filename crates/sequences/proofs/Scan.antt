@@ -190,11 +190,6 @@ module _ (M : Stepping) (L : Lawful M) where
   unfolding visited
   found-short s b c q e = short M L s q (upto-sound M (L .bound s) s q (scan-found (wanted M s) (upto M (L .bound s) s) b c q e .1))
 
-  -- what is found is wanted
-  pub found-wanted : (s : M .State) (b c : ℕ) (q : List (M .Step)) → visited s b ≡ found c q → wanted M s q ≡ true
-  unfolding visited
-  found-wanted s b c q e = scan-found (wanted M s) (upto M (L .bound s) s) b c q e .0
-
   -- what is left is at most b
   pub left-le : (s : M .State) (b : ℕ) → leftOf (visited s b) ≤ b
   unfolding visited

@@ -20,7 +20,7 @@ use Rattle.machine.proofs.Cases.{reach-within, ruled-done, ruled-refused}
 use Rattle.machine.proofs.Effects.{effect}
 use Rattle.certify.specs.Certify.{certify, certified}
 use Rattle.certify.specs.Answers.{Ready}
-use Rattle.certify.proofs.Asked.{of-four, ready-here}
+use Rattle.certify.proofs.Asked.{ready-here}
 use Rattle.certify.proofs.Trying.{ready-after}
 use Rattle.step.specs.Below.{Code, Program, Instr, Message, Memory, Thread, Machine}
 use Rattle.step.specs.Step.{Step, rejected, settle, settleRule, executeInstr, executeStep, promiseStep, kindStep, ruleStep, step}

@@ -48,9 +48,6 @@ control a = instruction 3 0 0 a (con 0)
 abbrev pub dmbSy : Instruction
 dmbSy = instruction 4 0 0 (con 0) (con 0)
 
-abbrev pub dmbLd : Instruction
-dmbLd = instruction 4 1 0 (con 0) (con 0)
-
 abbrev pub dmbSt : Instruction
 dmbSt = instruction 4 2 0 (con 0) (con 0)
 

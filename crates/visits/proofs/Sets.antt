@@ -3,7 +3,7 @@
 use mathlib.Core.Path.{_≡_, refl, sym, ap, ap₂, subst, _∙_}
 use mathlib.Core.Bool.{Bool, true, false, _&&_}
 use mathlib.Core.Logic.{⊎-elim}
-use Prim.Native.Nat.{ℕ, zero, suc, _+_, _-_, _/_, _%_, _^_, _≤_, _<_}
+use Prim.Native.Nat.{ℕ, zero, suc, _+_, _-_, _/_, _^_, _≤_, _<_}
 use native.Mathlib.Decide.{decLt}
 use native.Mathlib.Omega.{arith}
 use lib.Dec.{T, eqb, leb, eqb→eq}
@@ -24,7 +24,7 @@ use Rattle.machine.specs.declared.Memory.{Memory}
 use Rattle.machine.specs.declared.Thread.{Thread}
 use Rattle.machine.specs.State.{noMessage, messageAt, has, with}
 use Rattle.machine.specs.Promises.{First}
-use Rattle.machine.specs.Rules.{readable, next, execute}
+use Rattle.machine.specs.Rules.{readable, execute}
 use Rattle.machine.proofs.Sets.{has-none, has-time, has-with, has-removed, with-without, with-small, grown-small}
 use Rattle.machine.proofs.Effects.{loadLocation, Effect, computed, loaded, stored, branched, fenced, effect, readable-time}
 use Rattle.visits.specs.Worthwhile.{AtLocation, Later, AtZero, After}

@@ -1,10 +1,10 @@
 -- Steps that need no try, because they are refused: of no thread, at a time at which the instruction cannot execute, of a promise that is not possible.
 -- Assumes nothing.
-use mathlib.Core.Path.{_≡_, refl, sym, ap, subst, _∙_}
+use mathlib.Core.Path.{_≡_, refl, ap, subst, _∙_}
 use mathlib.Core.Bool.{_&&_}
 use mathlib.Core.List.{List, map}
 use mathlib.Core.Option.{none, some}
-use Prim.Native.Nat.{ℕ, _-_, _/_, _%_, _≤_, _<_}
+use Prim.Native.Nat.{ℕ, _-_, _≤_, _<_}
 use native.Mathlib.Omega.{arith}
 use lib.Count.{ones}
 use lib.Dec.{ltb, eqb, ltb→lt}
@@ -24,7 +24,6 @@ use Rattle.source.proofs.Formed.{ProgramOk}
 use Rattle.certify.proofs.Fit.{promises-fit}
 use Rattle.candidates.specs.declared.Possible.{Possible}
 use Rattle.candidates.specs.Answers.{Covers, Possibly}
-use Rattle.sequences.specs.Sequences.{Among}
 use Rattle.sequences.proofs.Ordered.{among-unmap}
 use Rattle.sequences.proofs.Scan.{going}
 use Rattle.step.specs.Step.{Step, Outcome, rejected, accepted, settleRule, executeInstr, kindStep, ruleStep, executeStep, step, taken}

@@ -1,16 +1,16 @@
 -- What the answer of a part of the search says of the whole, and what a step does to the answer below it.
 -- Assumes nothing.
-use mathlib.Core.Path.{_≡_, refl, sym, ap, _∙_}
+use mathlib.Core.Path.{_≡_, refl, ap, _∙_}
 use mathlib.Core.List.{List, [], _∷_, _++_}
-use Prim.Native.Nat.{ℕ, suc, _+_, _-_, _*_, _≤_, _<_}
+use Prim.Native.Nat.{ℕ, _+_, _-_, _*_, _≤_}
 use native.Mathlib.Omega.{arith}
 use lib.ListN.{length, take, drop}
 use lib.Seq.{take-append-le, take-take, drop-at, length-take-le}
 use Rattle.step.specs.Step.{Step}
 use Rattle.step.specs.Trace.{stepBytes, traceBytes}
 use Rattle.values.specs.Lists.{put}
-use Rattle.sequences.proofs.Scan.{Scan, going, found, out, andThen, under}
-use Rattle.visits.specs.Visits.{Ran, Going, Found, Out, ranOf, laid, Tells}
+use Rattle.sequences.proofs.Scan.{Scan, going, found, out}
+use Rattle.visits.specs.Visits.{Ran, Going, Tells}
 
 pub trace-length : (q : List Step) → length (traceBytes q) ≡ 6 * length q
 unfolding traceBytes
@@ -40,14 +40,3 @@ module _ {d : ℕ} {r : Ran} {old new : List ℕ} where
   went-on (going c) t b e = let q : c ≡ b = let a = t .answer in cc in (ap going q, t .lent)
   went-on (found c q) t b e = absurd (let a = t .answer in let z : _≡_ {A = ℕ} 0 1 = cc in omega arith)
   went-on out t b e = absurd (let a = t .answer in let z : _≡_ {A = ℕ} 0 1 = cc in omega arith)
-
-  -- it ended, so nothing comes after
-  pub found-ends : (o : Scan Step) (f : ℕ → Scan Step) → Tells d o r old new → (b n : ℕ) → r ≡ Found b n → Tells d (andThen o f) r old new
-  found-ends (going c) f t b n e = absurd (let a = t .answer in let z : _≡_ {A = ℕ} 0 1 = cc in omega arith)
-  found-ends (found c q) f t b n e = t
-  found-ends out f t b n e = t
-
-  pub out-ends : (o : Scan Step) (f : ℕ → Scan Step) → Tells d o r old new → r ≡ Out → Tells d (andThen o f) r old new
-  out-ends (going c) f t e = absurd (let a = t .answer in let z : _≡_ {A = ℕ} 0 1 = cc in omega arith)
-  out-ends (found c q) f t e = t
-  out-ends out f t e = t

@@ -2,7 +2,7 @@
 -- Assumes nothing.
 use mathlib.Core.Path.{_≡_, refl, sym, ap, subst, _∙_}
 use mathlib.Core.Bool.{Bool, true, false, cond}
-use mathlib.Core.List.{List, [], _∷_, _++_}
+use mathlib.Core.List.{List, [], _∷_}
 use Prim.Native.Nat.{ℕ, suc, _+_, _-_, _*_, _≤_, _<_}
 use native.Mathlib.Omega.{arith}
 use lib.Dec.{ltb}
@@ -19,7 +19,7 @@ use Rattle.certify.specs.Answers as certified
 use Rattle.certify.proofs.Asked.{of-four, ready-here}
 use Rattle.values.specs.Lists.{put}
 use Rattle.values.proofs.Putting.{put-none}
-use Rattle.sequences.proofs.Scan.{Scan, going, found, out, andThen, under, visited, found-short}
+use Rattle.sequences.proofs.Scan.{Scan, going, found, out, andThen, under, found-short}
 use Rattle.step.specs.Step.{Step, accepted, rejected, step}
 use Rattle.step.specs.declared.StepAnswer.the-variants.{Taken, Refused}
 use Rattle.step.specs.declared.Moved.{Moved}
@@ -38,7 +38,7 @@ use Rattle.visits.specs.Worthwhile.{Attempts, Worth}
 use Rattle.visits.proofs.Ranges.{steps-from, next-step, at-end, stepsOf, threads-from, all-threads, next-thread, by-number}
 use Rattle.visits.proofs.Parts.{visiting-is, none-left, is-wanted, not-wanted, no-step, two-parts, step-refused, step-accepted}
 use Rattle.visits.proofs.Skipped.{no-more-threads, passed-over}
-use Rattle.visits.proofs.Telling.{trace-length, put-under, went-on, found-ends, out-ends}
+use Rattle.visits.proofs.Telling.{trace-length, put-under, went-on}
 
 -- one part after another, and then a third
 then-then : (o : Scan Step) (f g : ℕ → Scan Step) → andThen (andThen o f) g ≡ andThen o (λ b. andThen (f b) g)

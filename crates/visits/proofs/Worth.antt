@@ -1,6 +1,6 @@
 -- What the code of the next step worth a try relies on, on plain values: numbers of steps, stores that are left, what a thread can try.
 -- Assumes nothing.
-use mathlib.Core.Path.{_≡_, refl, sym, ap, subst, _∙_}
+use mathlib.Core.Path.{_≡_, sym, ap, subst, _∙_}
 use mathlib.Core.Bool.{Bool, true, false, cond}
 use mathlib.Core.Option.{none, some}
 use Prim.Native.Nat.{ℕ, zero, suc, _+_, _-_, _/_, _%_, _≤_, _<_}
@@ -13,7 +13,7 @@ use Rattle.source.specs.declared.Code.{Code}
 use Rattle.source.specs.declared.Instruction.{Instruction}
 use Rattle.source.specs.declared.Instr.{Instr}
 use Rattle.source.specs.declared.Program.{Program}
-use Rattle.source.specs.Program.{instructionAt, instrAt, codeOf}
+use Rattle.source.specs.Program.{instructionAt, instrAt}
 use Rattle.source.specs.Counts.{oneStore, storesAmong, storesFrom}
 use Rattle.machine.specs.declared.Memory.{Memory}
 use Rattle.machine.specs.declared.Thread.{Thread}
@@ -41,13 +41,16 @@ unfolding stepAt
 at-key i k h = rw (le-ltb k 17 h)
 
 -- ---- the stores that are left
-pub one-at-most : (x : Instruction) → oneStore x ≤ 1
+one-at-most : (x : Instruction) → oneStore x ≤ 1
 unfolding oneStore
 one-at-most x = go (eqb (x .op) 2)
   where
     go : (b : Bool) → cond b 1 0 ≤ 1
     go true = omega arith
     go false = omega arith
+
+pub counts-one : (v : ℕ) (x : Instruction) → v ≡ oneStore x → v ≤ 1
+counts-one v x e = let o = one-at-most x in omega arith
 
 pub stores-more : (c : Code) (k : ℕ) → k < c .count → storesFrom c k ≡ oneStore (instructionAt c k) + storesFrom c (k + 1)
 unfolding storesFrom storesAmong

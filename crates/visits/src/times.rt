@@ -1,5 +1,4 @@
 // The times at which an instruction is worth a try: time 0, and the later times as a set like that of the promises.
-ghost use mathlib.Core.Path.{_≡_};
 ghost use Prim.Native.Nat.{_≤_, _<_};
 ghost use Rattle.visits.specs.Worthwhile.{AtLocation, Later, AtZero, After};
 use machine::Memory;

@@ -60,7 +60,8 @@ fn stores_from(c: Code, n: u8) -> u8
     let mut r = 0u8;
     let mut k = n;
     while k < c.count {
-        r += c.instruction_at(k).one_store();
+        let x = c.instructions[k as usize];
+        r += x.one_store();
         k += 1;
     }
     r

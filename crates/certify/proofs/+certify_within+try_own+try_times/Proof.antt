@@ -3,7 +3,6 @@ use mathlib.Core.Path.{sym, _∙_}
 use mathlib.Core.Logic.{⊎-elim}
 use native.Mathlib.Omega.{arith}
 use borrow.Author.Needs.{needs}
-use borrow.Author.Tests.{eqb-false}
 use borrow.Fn.Kinds.{In}
 use Rattle.machine.proofs.Cases.{ruled-done}
 use Rattle.machine.proofs.Effects.{effect}

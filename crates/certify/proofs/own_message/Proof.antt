@@ -1,10 +1,6 @@
 use borrow.Author.Needs.{needs}
 use Rattle.certify.proofs.own_message.Statement.{statement}
 use Rattle.certify.proofs.own_message.Tie as tie
-use Rattle.certify.proofs.own_message.Reads as reads
-use Rattle.certify.proofs.own_message.Lts as lts
-use Rattle.rules.proofs.operands.address.Reads as address-reads
-use Rattle.rules.proofs.operands.value_of.Reads as value-of-reads
 
 -- src/lib.rt:97:27
 value-of-requires : tie.Need-value-of-requires

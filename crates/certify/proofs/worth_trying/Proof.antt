@@ -6,10 +6,6 @@ use mathlib.Core.Path.{sym, _∙_}
 use borrow.Author.Needs.{needs}
 use Rattle.certify.proofs.worth_trying.Statement.{statement}
 use Rattle.certify.proofs.worth_trying.Tie as tie
-use Rattle.certify.proofs.worth_trying.Reads as reads
-use Rattle.certify.proofs.worth_trying.Lts as lts
-use Rattle.machine.proofs.promises.first.Reads as first-reads
-use Rattle.machine.proofs.promises.is_empty.Reads as is-empty-reads
 
 -- src/lib.rt:45:36
 enum-told : tie.Need-enum-told

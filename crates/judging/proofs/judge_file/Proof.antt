@@ -4,10 +4,6 @@ use Rattle.judging.proofs.Room.{steps-fit}
 use borrow.Author.Needs.{needs}
 use Rattle.judging.proofs.judge_file.Statement.{statement}
 use Rattle.judging.proofs.judge_file.Tie as tie
-use Rattle.judging.proofs.judge_file.Reads as reads
-use Rattle.judging.proofs.judge_file.Lts as lts
-use Rattle.judging.proofs.answers.answer.Reads as answer-reads
-use Rattle.search.proofs.search.Reads as search-reads
 
 -- src/lib.rt:19:42
 slice-aggregate-search : tie.Need-slice-aggregate-search

@@ -5,9 +5,6 @@ use lib.ListN.{length-set}
 use borrow.Author.Needs.{needs}
 use Rattle.litmus.proofs.byte.Statement.{statement}
 use Rattle.litmus.proofs.byte.Tie as tie
-use Rattle.litmus.proofs.byte.Reads as reads
-use Rattle.litmus.proofs.byte.Lts as lts
-use Rattle.litmus.proofs.ended.Reads as ended-reads
 
 -- src/main.rt:70:9
 ended-requires : tie.Need-ended-requires

@@ -6,9 +6,6 @@ use lib.ListN.{length}
 use borrow.Author.Needs.{needs}
 use Rattle.litmus.proofs.piece.Statement.{statement}
 use Rattle.litmus.proofs.piece.Tie as tie
-use Rattle.litmus.proofs.piece.Reads as reads
-use Rattle.litmus.proofs.piece.Lts as lts
-use Rattle.litmus.proofs.byte.Reads as byte-reads
 
 abbrev Inv-loop : tie.InvT-loop
 Inv-loop s buffer₀ q₀ i₀ i-end buffer q i = (i-end ≡ length s) × (length buffer ≡ length buffer₀) × (q .len ≤ length buffer)

@@ -6,11 +6,6 @@ use lib.ListN.{length}
 use borrow.Author.Needs.{needs}
 use Rattle.litmus.proofs.pieces.Statement.{statement}
 use Rattle.litmus.proofs.pieces.Tie as tie
-use Rattle.litmus.proofs.pieces.Reads as reads
-use Rattle.litmus.proofs.pieces.Lts as lts
-use Rattle.io.proofs.buffer.Reads as buffer-reads
-use Rattle.io.proofs.read_full.Reads as read-full-reads
-use Rattle.litmus.proofs.piece.Reads as piece-reads
 
 abbrev Inv-loop : tie.InvT-loop
 Inv-loop buffer₀ q₀ turns₀ buffer q turns = (length buffer ≡ length buffer₀) × (q .len ≤ length buffer)

@@ -4,16 +4,6 @@ use borrow.Author.Needs.{needs}
 use Prim.Native.Nat.{_-_, _≤_}
 use Rattle.pace.proofs.certifications.Statement.{statement}
 use Rattle.pace.proofs.certifications.Tie as tie
-use Rattle.pace.proofs.certifications.Reads as reads
-use Rattle.pace.proofs.certifications.Lts as lts
-use Rattle.certify.proofs.certify.Reads as certify-reads
-use Rattle.machine.proofs.machines.fresh.Reads as fresh-reads
-use Rattle.pace.proofs.load_buffering.Reads as load-buffering-reads
-use Rattle.pace.proofs.promise.Reads as promise-reads
-use Rattle.pace.proofs.report.Reads as report-reads
-use Rattle.pace.proofs.used.Reads as used-reads
-use Rattle.pace.proofs.with_value.Reads as with-value-reads
-use Rattle.std.proofs.num.wrapping_add_u64.Reads as wrapping-add-u64-reads
 
 abbrev Inv-loop : tie.InvT-loop
 Inv-loop calls before p x sum₀ i₀ t9 sum i = i ≤ calls

@@ -4,10 +4,6 @@ use Prim.Native.Nat.{_-_, _≤_}
 use borrow.Author.Needs.{needs}
 use Rattle.pace.proofs.eight_messages.Statement.{statement}
 use Rattle.pace.proofs.eight_messages.Tie as tie
-use Rattle.pace.proofs.eight_messages.Reads as reads
-use Rattle.pace.proofs.eight_messages.Lts as lts
-use Rattle.machine.proofs.Memory.append.Reads as append-reads
-use Rattle.machine.proofs.machines.fresh.Reads as fresh-reads
 
 abbrev Inv-loop : tie.InvT-loop
 Inv-loop x₀ v₀ x v = v ≤ 9

@@ -4,15 +4,6 @@ use Prim.Native.Nat.{_-_, _≤_}
 use borrow.Author.Needs.{needs}
 use Rattle.pace.proofs.possible.Statement.{statement}
 use Rattle.pace.proofs.possible.Tie as tie
-use Rattle.pace.proofs.possible.Reads as reads
-use Rattle.pace.proofs.possible.Lts as lts
-use Rattle.machine.proofs.Machine.thread_of.Reads as thread-of-reads
-use Rattle.pace.proofs.first_possible.Reads as first-possible-reads
-use Rattle.pace.proofs.report.Reads as report-reads
-use Rattle.pace.proofs.used.Reads as used-reads
-use Rattle.pace.proofs.with_value.Reads as with-value-reads
-use Rattle.source.proofs.Program.code_of.Reads as code-of-reads
-use Rattle.std.proofs.num.wrapping_add_u64.Reads as wrapping-add-u64-reads
 
 abbrev Inv-loop : tie.InvT-loop
 Inv-loop name p x calls before sum₀ i₀ sum i = i ≤ calls

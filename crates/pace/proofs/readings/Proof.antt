@@ -6,13 +6,6 @@ use Prim.Native.Nat.{_-_, _≤_}
 use lib.ListN.{length}
 use Rattle.pace.proofs.readings.Statement.{statement}
 use Rattle.pace.proofs.readings.Tie as tie
-use Rattle.pace.proofs.readings.Reads as reads
-use Rattle.pace.proofs.readings.Lts as lts
-use Rattle.pace.proofs.longest_file.Reads as longest-file-reads
-use Rattle.pace.proofs.report.Reads as report-reads
-use Rattle.pace.proofs.used.Reads as used-reads
-use Rattle.program.proofs.read.Reads as read-reads
-use Rattle.std.proofs.num.wrapping_add_u64.Reads as wrapping-add-u64-reads
 
 abbrev Inv-loop : tie.InvT-loop
 Inv-loop calls before file₀ sum₀ i₀ t9 file sum i = (i ≤ calls) × (length file ≡ 647)

@@ -4,15 +4,6 @@ use borrow.Author.Needs.{needs}
 use Prim.Native.Nat.{_-_, _≤_}
 use Rattle.pace.proofs.steps.Statement.{statement}
 use Rattle.pace.proofs.steps.Tie as tie
-use Rattle.pace.proofs.steps.Reads as reads
-use Rattle.pace.proofs.steps.Lts as lts
-use Rattle.machine.proofs.machines.fresh.Reads as fresh-reads
-use Rattle.pace.proofs.one_run.Reads as one-run-reads
-use Rattle.pace.proofs.report.Reads as report-reads
-use Rattle.pace.proofs.store_buffering.Reads as store-buffering-reads
-use Rattle.pace.proofs.used.Reads as used-reads
-use Rattle.pace.proofs.with_value.Reads as with-value-reads
-use Rattle.std.proofs.num.wrapping_add_u64.Reads as wrapping-add-u64-reads
 
 abbrev Inv-loop : tie.InvT-loop
 Inv-loop runs before p sum₀ i₀ t9 sum i = i ≤ runs

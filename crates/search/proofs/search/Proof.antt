@@ -4,11 +4,6 @@ use Rattle.search.proofs.Told.{file-formed, area-short, area-long, file
 use borrow.Author.Needs.{needs}
 use Rattle.search.proofs.search.Statement.{statement}
 use Rattle.search.proofs.search.Tie as tie
-use Rattle.search.proofs.search.Reads as reads
-use Rattle.search.proofs.search.Lts as lts
-use Rattle.program.proofs.read.Reads as read-reads
-use Rattle.search.proofs.refusal.Reads as refusal-reads
-use Rattle.search.proofs.search_program.Reads as search-program-reads
 
 -- src/lib.rt:77:9
 read-requires : tie.Need-read-requires

@@ -1,15 +1,9 @@
 -- `step::execute_step` meets its contract.
 -- Assumes nothing.
-use Rattle.step.proofs.Stepping.{position-small, reach-small, ready-executed, execute-end, execute-done, execute-refused}
+use Rattle.step.proofs.Stepping.{reach-small, ready-executed, execute-end, execute-done, execute-refused}
 use borrow.Author.Needs.{needs}
 use Rattle.step.proofs.execute_step.Statement.{statement}
 use Rattle.step.proofs.execute_step.Tie as tie
-use Rattle.step.proofs.execute_step.Reads as reads
-use Rattle.step.proofs.execute_step.Lts as lts
-use Rattle.rules.proofs.execute.Reads as execute-reads
-use Rattle.source.proofs.Code.instr_at.Reads as instr-at-reads
-use Rattle.step.proofs.settle.Reads as settle-reads
-use Rattle.step.proofs.stays.Reads as stays-reads
 
 -- src/lib.rt:90:9
 stays-requires : tie.Need-stays-requires

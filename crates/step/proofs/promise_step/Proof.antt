@@ -5,13 +5,6 @@ use mathlib.Core.Path.{refl}
 use borrow.Author.Needs.{needs}
 use Rattle.step.proofs.promise_step.Statement.{statement}
 use Rattle.step.proofs.promise_step.Tie as tie
-use Rattle.step.proofs.promise_step.Reads as reads
-use Rattle.step.proofs.promise_step.Lts as lts
-use Rattle.machine.proofs.Memory.append.Reads as append-reads
-use Rattle.machine.proofs.Thread.with_promises.Reads as with-promises-reads
-use Rattle.machine.proofs.promises.with.Reads as with-reads
-use Rattle.step.proofs.settle.Reads as settle-reads
-use Rattle.step.proofs.stays.Reads as stays-reads
 
 -- src/lib.rt:106:9
 stays-requires : tie.Need-stays-requires

@@ -7,13 +7,6 @@ use mathlib.Core.Path.{sym, ap, _∙_}
 use borrow.Author.Needs.{needs}
 use Rattle.step.proofs.rule_step.Statement.{statement}
 use Rattle.step.proofs.rule_step.Tie as tie
-use Rattle.step.proofs.rule_step.Reads as reads
-use Rattle.step.proofs.rule_step.Lts as lts
-use Rattle.machine.proofs.Machine.moved.Reads as moved-reads
-use Rattle.machine.proofs.Machine.thread_of.Reads as thread-of-reads
-use Rattle.source.proofs.Program.code_of.Reads as code-of-reads
-use Rattle.step.proofs.refused.Reads as refused-reads
-use Rattle.step.proofs.thread_step.Reads as thread-step-reads
 
 -- src/lib.rt:144:9
 refused-requires : tie.Need-refused-requires

@@ -4,10 +4,6 @@ use Rattle.step.proofs.Stepping.{settle-yes, settle-no}
 use borrow.Author.Needs.{needs}
 use Rattle.step.proofs.settle.Statement.{statement}
 use Rattle.step.proofs.settle.Tie as tie
-use Rattle.step.proofs.settle.Reads as reads
-use Rattle.step.proofs.settle.Lts as lts
-use Rattle.certify.proofs.certify_within.Reads as certify-within-reads
-use Rattle.step.proofs.stays.Reads as stays-reads
 
 -- src/lib.rt:72:8
 certify-within-requires : tie.Need-certify-within-requires

@@ -5,11 +5,6 @@ use native.Mathlib.Omega.{arith}
 use borrow.Author.Needs.{needs}
 use Rattle.step.proofs.thread_step.Statement.{statement}
 use Rattle.step.proofs.thread_step.Tie as tie
-use Rattle.step.proofs.thread_step.Reads as reads
-use Rattle.step.proofs.thread_step.Lts as lts
-use Rattle.step.proofs.execute_step.Reads as execute-step-reads
-use Rattle.step.proofs.promise_step.Reads as promise-step-reads
-use Rattle.step.proofs.stays.Reads as stays-reads
 
 -- src/lib.rt:127:13
 stays-requires : tie.Need-stays-requires

@@ -8,8 +8,6 @@ use native.Mathlib.Omega.{arith}
 use borrow.Author.Needs.{needs}
 use Rattle.visits.proofs.put_step.Statement.{statement}
 use Rattle.visits.proofs.put_step.Tie as tie
-use Rattle.visits.proofs.put_step.Reads as reads
-use Rattle.visits.proofs.put_step.Lts as lts
 
 -- src/visits.rt:22:5
 slice-write-area : tie.Need-slice-write-area

@@ -5,9 +5,6 @@ use lib.ListN.{length}
 use borrow.Author.Needs.{needs}
 use Rattle.judging.proofs.answers.steps.Statement.{statement}
 use Rattle.judging.proofs.answers.steps.Tie as tie
-use Rattle.judging.proofs.answers.steps.Reads as reads
-use Rattle.judging.proofs.answers.steps.Lts as lts
-use Rattle.judging.proofs.answers.step.Reads as step-reads
 
 abbrev Inv-loop : tie.InvT-loop
 Inv-loop trace n k₀ k = (6 * n ≤ length trace) × (k ≤ n)

@@ -5,8 +5,6 @@ use Rattle.judging.proofs.Budgets.{Read, none-read, read-start, read-be
 use borrow.Author.Needs.{needs}
 use Rattle.judging.proofs.argument.budget_of.Statement.{statement}
 use Rattle.judging.proofs.argument.budget_of.Tie as tie
-use Rattle.judging.proofs.argument.budget_of.Reads as reads
-use Rattle.judging.proofs.argument.budget_of.Lts as lts
 
 abbrev Inv-loop : tie.InvT-loop
 Inv-loop text n₀ i₀ i-end n i = Read text i-end n i

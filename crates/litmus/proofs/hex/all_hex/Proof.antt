@@ -9,9 +9,6 @@ use Rattle.litmus.specs.Hex.{hexDigit, allHex}
 use borrow.Author.Needs.{needs}
 use Rattle.litmus.proofs.hex.all_hex.Statement.{statement}
 use Rattle.litmus.proofs.hex.all_hex.Tie as tie
-use Rattle.litmus.proofs.hex.all_hex.Reads as reads
-use Rattle.litmus.proofs.hex.all_hex.Lts as lts
-use Rattle.litmus.proofs.hex.is_hex.Reads as is-hex-reads
 
 abbrev Inv-loop : tie.InvT-loop
 Inv-loop text ok₀ i₀ i-end ok i = (i-end ≡ length text) × Passed (λ k. hexDigit (getD text k 0)) i-end i ok

@@ -6,10 +6,6 @@ use Rattle.litmus.proofs.Decoding.{odd, small, other, pairs}
 use borrow.Author.Needs.{needs}
 use Rattle.litmus.proofs.hex.decode.Statement.{statement}
 use Rattle.litmus.proofs.hex.decode.Tie as tie
-use Rattle.litmus.proofs.hex.decode.Reads as reads
-use Rattle.litmus.proofs.hex.decode.Lts as lts
-use Rattle.litmus.proofs.hex.all_hex.Reads as all-hex-reads
-use Rattle.litmus.proofs.hex.put_bytes.Reads as put-bytes-reads
 
 -- src/hex.rt:71:8
 mul-if1 : tie.Need-mul-if1

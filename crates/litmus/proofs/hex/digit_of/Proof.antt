@@ -4,8 +4,6 @@ use Rattle.litmus.proofs.Digits.{digit-low, digit-number, digit-between
 use borrow.Author.Needs.{needs}
 use Rattle.litmus.proofs.hex.digit_of.Statement.{statement}
 use Rattle.litmus.proofs.hex.digit_of.Tie as tie
-use Rattle.litmus.proofs.hex.digit_of.Reads as reads
-use Rattle.litmus.proofs.hex.digit_of.Lts as lts
 
 -- src/hex.rt:26:9
 returns : tie.Need-returns

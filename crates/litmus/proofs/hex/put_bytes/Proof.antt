@@ -9,10 +9,6 @@ use native.Mathlib.Omega.{arith}
 use borrow.Author.Needs.{needs}
 use Rattle.litmus.proofs.hex.put_bytes.Statement.{statement}
 use Rattle.litmus.proofs.hex.put_bytes.Tie as tie
-use Rattle.litmus.proofs.hex.put_bytes.Reads as reads
-use Rattle.litmus.proofs.hex.put_bytes.Lts as lts
-use Rattle.litmus.proofs.hex.byte_of.Reads as byte-of-reads
-use Rattle.values.proofs.put_one.Reads as put-one-reads
 
 abbrev Inv-loop : tie.InvT-loop
 Inv-loop text n area₀ i₀ area i = (2 * n ≡ length text) × (n ≤ length area₀) × Putting (pairAt text) n 0 area₀ i i area

@@ -5,12 +5,6 @@ use Rattle.litmus.proofs.Decoding.{fits}
 use borrow.Author.Needs.{needs}
 use Rattle.litmus.proofs.line.in_digits.Statement.{statement}
 use Rattle.litmus.proofs.line.in_digits.Tie as tie
-use Rattle.litmus.proofs.line.in_digits.Reads as reads
-use Rattle.litmus.proofs.line.in_digits.Lts as lts
-use Rattle.io.proofs.buffer.Reads as buffer-reads
-use Rattle.litmus.proofs.hex.decode.Reads as decode-reads
-use Rattle.litmus.proofs.line.judged.Reads as judged-reads
-use Rattle.litmus.proofs.line.unread.Reads as unread-reads
 
 -- src/line.rt:75:20
 buffer-requires : tie.Need-buffer-requires

@@ -14,9 +14,6 @@ use mathlib.Core.Path.{_≡_, _∙_}
 use borrow.Author.Needs.{needs}
 use Rattle.step.proofs.outcome.complete.Statement.{statement}
 use Rattle.step.proofs.outcome.complete.Tie as tie
-use Rattle.step.proofs.outcome.complete.Reads as reads
-use Rattle.step.proofs.outcome.complete.Lts as lts
-use Rattle.step.proofs.outcome.thread_done.Reads as thread-done-reads
 
 -- src/outcome.rt:28:35
 element-copy-out-thread-done : tie.Need-element-copy-out-thread-done

@@ -7,10 +7,6 @@ use native.Mathlib.Omega.{arith}
 use borrow.Author.Needs.{needs}
 use Rattle.visits.proofs.times.after.Statement.{statement}
 use Rattle.visits.proofs.times.after.Tie as tie
-use Rattle.visits.proofs.times.after.Reads as reads
-use Rattle.visits.proofs.times.after.Lts as lts
-use Rattle.machine.proofs.promises.first.Reads as first-reads
-use Rattle.machine.proofs.promises.is_empty.Reads as is-empty-reads
 
 -- src/times.rt:69:9
 returns : tie.Need-returns

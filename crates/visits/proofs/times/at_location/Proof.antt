@@ -10,9 +10,6 @@ use Rattle.visits.proofs.Sets.{next-message, Collected, collected-none,
 use native.Mathlib.Omega.{arith}
 use Rattle.visits.proofs.times.at_location.Statement.{statement}
 use Rattle.visits.proofs.times.at_location.Tie as tie
-use Rattle.visits.proofs.times.at_location.Reads as reads
-use Rattle.visits.proofs.times.at_location.Lts as lts
-use Rattle.machine.proofs.promises.with.Reads as with-reads
 
 abbrev Inv-loop : tie.InvT-loop
 Inv-loop l count messages r₀ t₀ r t = Collected (record { count = count; messages = messages }) l r t

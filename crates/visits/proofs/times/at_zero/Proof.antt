@@ -4,8 +4,6 @@ use Rattle.visits.proofs.Sets.{store-not-at-0, may-be-at-0}
 use borrow.Author.Needs.{needs}
 use Rattle.visits.proofs.times.at_zero.Statement.{statement}
 use Rattle.visits.proofs.times.at_zero.Tie as tie
-use Rattle.visits.proofs.times.at_zero.Reads as reads
-use Rattle.visits.proofs.times.at_zero.Lts as lts
 
 -- src/times.rt:55:34
 enum-told : tie.Need-enum-told

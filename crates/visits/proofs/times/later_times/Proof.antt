@@ -7,11 +7,6 @@ use mathlib.Core.Path.{ap₂, _∙_}
 use borrow.Author.Needs.{needs}
 use Rattle.visits.proofs.times.later_times.Statement.{statement}
 use Rattle.visits.proofs.times.later_times.Tie as tie
-use Rattle.visits.proofs.times.later_times.Reads as reads
-use Rattle.visits.proofs.times.later_times.Lts as lts
-use Rattle.rules.proofs.operands.address_of_sum.Reads as address-of-sum-reads
-use Rattle.rules.proofs.operands.value_of.Reads as value-of-reads
-use Rattle.visits.proofs.times.at_location.Reads as at-location-reads
 
 -- src/times.rt:39:27
 enum-known-x : tie.Need-enum-known-x

@@ -4,10 +4,6 @@ use Rattle.visits.proofs.Worth.{none-promised, next-possible}
 use borrow.Author.Needs.{needs}
 use Rattle.visits.proofs.tries.next_promise.Statement.{statement}
 use Rattle.visits.proofs.tries.next_promise.Tie as tie
-use Rattle.visits.proofs.tries.next_promise.Reads as reads
-use Rattle.visits.proofs.tries.next_promise.Lts as lts
-use Rattle.candidates.proofs.least.next_store.Reads as next-store-reads
-use Rattle.candidates.proofs.pass.possible_stores.Reads as possible-stores-reads
 
 -- src/tries.rt:109:27
 possible-stores-requires : tie.Need-possible-stores-requires

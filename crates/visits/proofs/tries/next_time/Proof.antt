@@ -4,9 +4,6 @@ use Rattle.visits.proofs.Worth.{at-zero-now, after-zero, after-time}
 use borrow.Author.Needs.{needs}
 use Rattle.visits.proofs.tries.next_time.Statement.{statement}
 use Rattle.visits.proofs.tries.next_time.Tie as tie
-use Rattle.visits.proofs.tries.next_time.Reads as reads
-use Rattle.visits.proofs.tries.next_time.Lts as lts
-use Rattle.visits.proofs.times.after.Reads as after-reads
 
 -- src/tries.rt:96:13
 returns : tie.Need-returns

@@ -5,10 +5,6 @@ use native.Mathlib.Omega.{arith}
 use borrow.Author.Needs.{needs}
 use Rattle.visits.proofs.tries.next_try.Statement.{statement}
 use Rattle.visits.proofs.tries.next_try.Tie as tie
-use Rattle.visits.proofs.tries.next_try.Reads as reads
-use Rattle.visits.proofs.tries.next_try.Lts as lts
-use Rattle.visits.proofs.tries.next_promise.Reads as next-promise-reads
-use Rattle.visits.proofs.tries.next_time.Reads as next-time-reads
 
 -- src/tries.rt:120:16
 next-promise-requires : tie.Need-next-promise-requires

@@ -5,10 +5,6 @@ use mathlib.Core.Path.{_∙_}
 use borrow.Author.Needs.{needs}
 use Rattle.visits.proofs.tries.step_at.Statement.{statement}
 use Rattle.visits.proofs.tries.step_at.Tie as tie
-use Rattle.visits.proofs.tries.step_at.Reads as reads
-use Rattle.visits.proofs.tries.step_at.Lts as lts
-use Rattle.visits.proofs.tries.execution.Reads as execution-reads
-use Rattle.visits.proofs.tries.promise.Reads as promise-reads
 
 -- src/tries.rt:46:29
 cast-execution : tie.Need-cast-execution

@@ -1,54 +1,67 @@
--- `search::tries::stores_from` meets its contract.
+-- `visits::tries::stores_from` meets its contract.
 -- Assumes nothing.
-use Rattle.visits.proofs.Worth.{one-at-most, counted-more, counted-all}
+use Rattle.visits.proofs.Worth.{counts-one, counted-more, counted-all}
+use Rattle.source.proofs.Arrays.{length-mapped, getD-any}
 use Rattle.source.specs.Counts.{storesFrom}
-use Prim.Native.Nat.{_+_, _-_, _≤_}
-use mathlib.Core.Path.{_≡_}
+use lib.ListN.{length}
+use borrow.Author.Needs.{needs}
 use native.Mathlib.Omega.{arith}
+use Prim.Native.Nat.{_+_, _-_, _≤_, _<_}
+use mathlib.Core.Path.{_≡_}
 use Rattle.visits.proofs.tries.stores_from.Statement.{statement}
 use Rattle.visits.proofs.tries.stores_from.Tie as tie
-use Rattle.visits.proofs.tries.stores_from.Reads as reads
-use Rattle.visits.proofs.tries.stores_from.Lts as lts
-use Rattle.source.proofs.Code.instruction_at.Reads as instruction-at-reads
-use Rattle.source.proofs.Instruction.one_store.Reads as one-store-reads
 
 abbrev Inv-loop : tie.InvT-loop
-Inv-loop c n r₀ k₀ r k = (r + storesFrom c k ≡ storesFrom c n) × (r ≤ k)
+Inv-loop n c r₀ k₀ r k = (r + storesFrom c k ≡ storesFrom c n) × (r ≤ k)
 
 abbrev μ-loop : tie.MeasureT-loop
-μ-loop c n r₀ k₀ r k = c .count - k
+μ-loop n c r₀ k₀ r k = c .count - k
 
--- src/tries.rt:45:5
+-- src/tries.rt:62:5
 loop-holds : tie.Need-loop-holds Inv-loop μ-loop
 loop-holds c = (omega arith, omega arith)
 
--- src/tries.rt:46:14
-instruction-at-requires : tie.Need-instruction-at-requires Inv-loop μ-loop
-instruction-at-requires c κs = let h = c .before .before .before .pre in let l = c .if1 .taken in omega arith
+-- src/tries.rt:63:32
+cast-x : tie.Need-cast-x Inv-loop μ-loop
+cast-x c = search needs
 
--- src/tries.rt:46:14
+-- src/tries.rt:63:17
+mul-x : tie.Need-mul-x Inv-loop μ-loop
+mul-x c = let h = c .before .before .pre in let l = c .loop-test .taken in omega arith
+
+-- src/tries.rt:63:17
+element-copy-out-x : tie.Need-element-copy-out-x Inv-loop μ-loop
+element-copy-out-x c = let h = c .before .before .pre in let l = c .loop-test .taken in omega arith
+
+-- src/tries.rt:64:14
 one-store-requires : tie.Need-one-store-requires Inv-loop μ-loop
 one-store-requires c κs = tt
 
--- src/tries.rt:46:9
+-- src/tries.rt:64:9
 add-r : tie.Need-add-r Inv-loop μ-loop
-add-r c = let o = one-at-most (c .before .instruction-at .result) in let e = c .one-store .ensures in let i = c .before .before .before .before .loop .inv .1 in let l = c .before .before .if1 .taken in let h = c .before .before .before .before .before .pre in omega arith
+add-r c = let o = counts-one _ _ (c .one-store .ensures) in let i = c .before .before .before .loop .inv .1 in let l = c .before .before .loop-test .taken in let h = c .before .before .before .before .pre in omega arith
 
--- src/tries.rt:47:9
+-- src/tries.rt:65:9
 add-k : tie.Need-add-k Inv-loop μ-loop
-add-k c = let l = c .before .before .if1 .taken in let h = c .before .before .before .before .before .pre in omega arith
+add-k c = let l = c .before .before .loop-test .taken in let h = c .before .before .before .before .pre in omega arith
 
--- src/tries.rt:45:5
+-- src/tries.rt:62:5
 loop-less : tie.Need-loop-less Inv-loop μ-loop
-loop-less c = let l = c .before .before .if1 .taken in omega arith
+loop-less c = let l = c .before .before .loop-test .taken in omega arith
 
--- src/tries.rt:45:5
+-- src/tries.rt:62:5
 loop-again : tie.Need-loop-again Inv-loop μ-loop
-loop-again c = counted-more _ _ _ _ _ _ (c .before .before .before .before .loop .inv) (c .before .before .if1 .taken) (c .before .instruction-at .ensures) (c .one-store .ensures)
+loop-again c =
+    let d = c .before .before .before .before .args .t1 in
+    let size : length (d .instructions) ≡ 16 = search length-mapped depth 7 in
+    let l = c .before .before .loop-test .taken in
+    let h = c .before .before .before .before .pre in
+    let in-code : c .before .before .before .loop .k < length (d .instructions) = omega arith in
+    counted-more _ _ _ _ _ _ (c .before .before .before .loop .inv) l (getD-any _ _ (d .instructions) (c .before .before .before .loop .k) in-code) (c .one-store .ensures)
 
--- src/tries.rt:39:1
+-- src/tries.rt:56:1
 returns : tie.Need-returns Inv-loop μ-loop
-returns c = counted-all _ _ _ _ (c .before .before .loop .inv) (c .if1 .left)
+returns c = counted-all _ _ _ _ (c .before .loop .inv) (c .loop-test .left)
 
 pub stores-from-spec : {M : Type 1} → statement M
 stores-from-spec =
@@ -57,7 +70,9 @@ stores-from-spec =
     Inv-loop
     μ-loop
     loop-holds
-    instruction-at-requires
+    cast-x
+    mul-x
+    element-copy-out-x
     one-store-requires
     add-r
     add-k

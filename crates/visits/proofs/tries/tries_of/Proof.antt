@@ -4,12 +4,6 @@ use Rattle.visits.proofs.Worth.{nothing-left, what-is-worth}
 use borrow.Author.Needs.{needs}
 use Rattle.visits.proofs.tries.tries_of.Statement.{statement}
 use Rattle.visits.proofs.tries.tries_of.Tie as tie
-use Rattle.visits.proofs.tries.tries_of.Reads as reads
-use Rattle.visits.proofs.tries.tries_of.Lts as lts
-use Rattle.source.proofs.Code.instr_at.Reads as instr-at-reads
-use Rattle.visits.proofs.times.at_zero.Reads as at-zero-reads
-use Rattle.visits.proofs.times.later_times.Reads as later-times-reads
-use Rattle.visits.proofs.tries.stores_from.Reads as stores-from-reads
 
 -- src/tries.rt:76:9
 returns : tie.Need-returns
