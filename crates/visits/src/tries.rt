@@ -67,7 +67,7 @@ fn stores_from(c: Code, n: u8) -> u8
     r
 }
 
-// What is worth a try of a thread: time 0, later times, promises; none of these if each store that is left has its promise.
+// What is worth a try of a thread: time 0, later times, and promises unless each store that is left has one.
 pub fn tries_of(c: Code, m: Memory, s: Thread) -> Attempts
     requires { ⌜ Ready c m s ⌝ }
     ensures { λ r. ⌜ Worth c m s r ⌝ }
