@@ -40,14 +40,15 @@ pub struct Views {
     pub rel: u8,
 }
 
-// The outstanding promises are a set of times: time t is in it if bit t - 1 is 1.
+// The outstanding promises are a set of times: time t is in it if bit t - 1 is 1. The arrays come first, so that every copy of a
+// thread cuts it at the same places: a processor hands such a copy on without waiting for memory.
 pub struct Thread {
-    pub position: u8,
     pub registers: [Register; 8],
     pub coherence: [u8; 16],
     pub forward: [Forward; 16],
-    pub views: Views,
     pub promises: u16,
+    pub position: u8,
+    pub views: Views,
 }
 
 pub struct Machine {

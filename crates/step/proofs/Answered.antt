@@ -1,6 +1,7 @@
 -- A step's answer read backwards.
 -- Assumes nothing.
-use mathlib.Core.Path.{_≡_, refl, sym, ap, _∙_}
+use mathlib.Core.Path.{_≡_, refl, sym, ap, subst, _∙_}
+use mathlib.Core.Logic.{_⊎_}
 use mathlib.Core.Bool.{true}
 use Prim.Native.Nat.{ℕ, _<_}
 use native.Mathlib.Omega.{arith}
@@ -11,8 +12,8 @@ use Rattle.source.proofs.Tests.{and-both, is-true}
 use Rattle.machine.specs.WellFormed.{machineTest, Formed}
 use Rattle.step.specs.Below.{Code, Program, Memory, Thread, Machine}
 use Rattle.step.specs.Step.{Step, Outcome, rejected, accepted, ruleStep, step}
-use Rattle.step.specs.Answers.{Taken, Refused, Stepped, stepped, Moved, outcome, Here, Moves}
-use Rattle.step.proofs.Stepping.{step-formed}
+use Rattle.step.specs.Answers.{Taken, Refused, Stepped, stepped, Moved, memoryAfter, Remembers, outcome, Here, Moves}
+use Rattle.step.proofs.Stepping.{step-formed, room-taken}
 use Rattle.step.proofs.Kept.{kept}
 
 module _ (x : Machine) (r : Stepped) where
@@ -41,12 +42,12 @@ module _ (p : Program) (x : Machine) (o : Formed p x) (k : Step) (r : Stepped) (
 
 -- the step of one thread, in a machine that has it
 module _ (p : Program) (x : Machine) (o : Formed p x) (k : Step) (h : k .thread < p .threads) {c : Code} {m : Memory} {s : Thread} (g : Here c m s p x (k .thread)) (r : Moved) (e : Moves c m s k r) where
-  by-thread : step p x k ≡ outcome x (k .thread) r
+  by-thread : step p x k ≡ outcome x (k .thread) (memoryAfter m k (k .kind)) r
   unfolding ruleStep
   by-thread = by-rule p x o k ∙ rw (lt-ltb (k .thread) (p .threads) h) (e p x g)
 
-  pub thread-taken : r .answer ≡ Taken → (y : Machine) → y ≡ record { memory = r .memory; threads = set (x .threads) (k .thread) (r .thread) } → step p x k ≡ accepted y
-  thread-taken t y z = by-thread ∙ rw (t, z)
+  pub thread-taken : r .answer ≡ Taken → (n : Memory) → Remembers m k n → (y : Machine) → y ≡ record { memory = n; threads = set (x .threads) (k .thread) (r .thread) } → step p x k ≡ accepted y
+  thread-taken t n w y z = by-thread ∙ rw (t, z, w (subst (λ (j : Memory). (k .kind ≡ 0) ⊎ (j .count < 16)) (g .memory) (room-taken p x k _ r (e p x g) t)))
 
   pub thread-refused : (n : ℕ) → r .answer ≡ Refused n → step p x k ≡ rejected n
   thread-refused n t = by-thread ∙ rw t

@@ -2,20 +2,24 @@
 -- Assumes nothing.
 use mathlib.Core.Path.{_≡_, refl, sym, ap, ap₂, _∙_, subst}
 use mathlib.Core.Bool.{Bool, true, false, cond, _&&_, _||_}
-use Prim.Native.Nat.{ℕ, zero, suc, _-_, _≤_, _<_}
+use mathlib.Core.List.{List}
+use Prim.Native.Nat.{ℕ, zero, suc, _+_, _-_, _≤_, _<_}
+use native.Mathlib.Numerals.{add-one}
 use native.Mathlib.Omega.{arith}
-use lib.Dec.{T, eqb, ltb, ltb→lt}
+use lib.Dec.{T, eqb, ltb, eqb→eq, ltb→lt}
 use lib.ListN.{getD}
 use borrow.Author.Tests.{eq-eqb, ne-eqb}
 use Rattle.source.specs.Tests.{below}
 use Rattle.source.specs.Program.{noCondition, codeOf}
 use Rattle.source.specs.WellFormed.{conditionTest}
-use Rattle.source.proofs.Tests.{all-at}
+use Rattle.source.proofs.Tests.{all-at, below-at}
 use Rattle.source.proofs.Shape.{program-iff}
 use Rattle.machine.specs.State.{freshRegister, threadOf, messageAt}
 use Rattle.machine.specs.WellFormed.{Formed}
+use Rattle.certify.proofs.Asked.{machine-facts}
 use Rattle.step.specs.Below.{Code, Condition, Program, Message, Memory, Register, Thread, Machine}
 use Rattle.step.specs.Outcome.{lastOf, lastValue, holds}
+use Rattle.step.specs.Answers.{Holds, allHold, Askable}
 
 and-true : (b : Bool) → (b && true) ≡ b
 and-true true = refl
@@ -71,25 +75,52 @@ module _ {m : Memory} {l : ℕ} where
   older-none (suc n) o h = absurd (omega arith)
 
 -- ---- a condition, by its kind
-module _ (x : Machine) (q : Condition) where
-  pub holds-register : (s : Thread) (r : Register) → q .kind ≡ 0 → s ≡ threadOf x (q .thread) → r ≡ getD (s .registers) (q .index) freshRegister → eqb (r .value) (q .value) ≡ holds x q
+module _ (m : Memory) (s : Thread) (q : Condition) where
+  pub holds-register : (r : Register) → q .kind ≡ 0 → r ≡ getD (s .registers) (q .index) freshRegister → Holds m s q (eqb (r .value) (q .value))
   unfolding holds
-  holds-register s r k e g = rw (eq-eqb (q .kind) 0 k, g, e)
+  holds-register r k g x d e = rw (eq-eqb (q .kind) 0 k, g, e)
 
-  pub holds-last : (v : ℕ) → (q .kind ≡ 0 → ⊥) → v ≡ lastValue (x .memory) (q .index) → eqb v (q .value) ≡ holds x q
+  pub holds-last : (v : ℕ) → (q .kind ≡ 0 → ⊥) → v ≡ lastValue m (q .index) → Holds m s q (eqb v (q .value))
   unfolding holds
-  holds-last v k e = rw (ne-eqb (q .kind) 0 k, e)
+  holds-last v k g x d e = rw (ne-eqb (q .kind) 0 k, g, d)
 
--- ---- a condition that asks for a register names one of the threads
-pub condition-thread : (p : Program) (x : Machine) → Formed p x → (k : ℕ) → k < p .conditions → (q : Condition) → q ≡ getD (p .question) k noCondition → q .kind ≡ 0 → q .thread < 4
+-- ---- the conditions, one after the other: k of them hold
+pub record Holding (question : List Condition) (x : Machine) (n k : ℕ) : Type 0 where
+  pub within : k ≤ n
+  pub so-far : allHold question x k ≡ true
+
+module _ {question : List Condition} {x : Machine} {n : ℕ} where
+  pub holding-none : Holding question x n 0
+  unfolding below
+  holding-none = record { within = omega arith; so-far = refl }
+
+  module _ {k : ℕ} (h : Holding question x n k) where
+    pub holding-more : k < n → (b : Bool) → b ≡ holds x (getD question k noCondition) → b ≡ true → Holding question x n (k + 1)
+    unfolding below
+    holding-more l b e z = record { within = omega arith; so-far = rw (add-one, sym e ∙ z, h .so-far) }
+
+    pub holding-all : n ≤ k → true ≡ allHold question x n
+    holding-all l = let w = h .within in let e : k ≡ n = omega arith in sym (h .so-far) ∙ ap (allHold question x) e
+
+pub holding-fails : (question : List Condition) (x : Machine) (n k : ℕ) → k < n → (b : Bool) → b ≡ holds x (getD question k noCondition) → b ≡ false → false ≡ allHold question x n
+holding-fails question x n k l b e z = go (allHold question x n) refl
+  where
+    go : (all : Bool) → allHold question x n ≡ all → false ≡ all
+    go false w = refl
+    go true w = absurd (subst T (sym e ∙ z) (below-at (λ j. holds x (getD question j noCondition)) n (subst T (sym w) tt) k l))
+
+-- ---- every condition of a well-formed program names one of the threads; where it asks for a location, thread 0
+pub condition-thread : (p : Program) (x : Machine) → Formed p x → (k : ℕ) → k < p .conditions → (getD (p .question) k noCondition) .thread < 4
 unfolding conditionTest
-condition-thread p x o k l q e z =
+condition-thread p x o k l =
+    let q = getD (p .question) k noCondition in
     let f = program-iff p .0 (o .program-formed) in
     let few = f .few-threads in
-    let t : T (conditionTest (p .threads) q) = subst (λ (y : Condition). T (conditionTest (p .threads) y)) (sym e) (f .conditions-ok k l) in
-    let b : T (cond (eqb (q .kind) 0) (ltb (q .thread) (p .threads)) (eqb (q .thread) 0)) = all-at _ t 1 in
-    let h = ltb→lt (q .thread) (p .threads) (rw (eq-eqb (q .kind) 0 z) at b) in
-    omega arith
+    go q few (eqb (q .kind) 0) (all-at _ (f .conditions-ok k l) 1)
+  where
+    go : (q : Condition) → p .threads ≤ 4 → (b : Bool) → T (cond b (ltb (q .thread) (p .threads)) (eqb (q .thread) 0)) → q .thread < 4
+    go q few true t = let h = ltb→lt (q .thread) (p .threads) t in omega arith
+    go q few false t = let h = eqb→eq (q .thread) 0 t in omega arith
 
-pub few-conditions : (p : Program) (x : Machine) → Formed p x → p .conditions ≤ 8
-few-conditions p x o = program-iff p .0 (o .program-formed) .few-conditions
+pub askable : (p : Program) (x : Machine) → Formed p x → Askable (p .conditions) (p .question) x
+askable p x o = record { few = program-iff p .0 (o .program-formed) .few-conditions; room = machine-facts p x o .memory-ok .room; thread-there = condition-thread p x o }

@@ -1,10 +1,12 @@
 -- What the code of a step relies on, on plain values: what each test says of the definition.
 -- Assumes nothing.
-use mathlib.Core.Path.{_≡_, refl, sym, ap, ap₂, _∙_}
+use mathlib.Core.Path.{_≡_, refl, sym, ap, ap₂, subst, _∙_}
 use mathlib.Core.Bool.{Bool, true, false, _&&_}
+use mathlib.Core.Logic.{_⊎_, inl, inr}
 use mathlib.Core.Option.{some}
 use Prim.Native.Nat.{ℕ, zero, suc, _+_, _-_, _^_, _≤_, _<_}
 use native.Mathlib.Omega.{arith}
+use lib.Dec.{eqb, leb, ltb, ltb→lt}
 use lib.ListN.{set}
 use borrow.Author.Tests.{lt-ltb, le-ltb, le-leb, lt-leb, eq-eqb, ne-eqb}
 use Rattle.source.specs.Program.{instrAt, codeOf}
@@ -23,12 +25,17 @@ use Rattle.certify.specs.Answers.{Ready}
 use Rattle.certify.proofs.Asked.{ready-here}
 use Rattle.certify.proofs.Trying.{ready-after}
 use Rattle.step.specs.Below.{Code, Program, Instr, Message, Memory, Thread, Machine}
-use Rattle.step.specs.Step.{Step, rejected, settle, settleRule, executeInstr, executeStep, promiseStep, kindStep, ruleStep, step}
-use Rattle.step.specs.Answers.{Taken, Refused, Stepped, stepped, Moved, outcome, Here, Settles, Executes, Promises, Moves}
+use Rattle.step.specs.Step.{Step, rejected, accepted, settle, settleRule, executeInstr, executeStep, promiseStep, kindStep, ruleStep, step}
+use Rattle.step.specs.Answers.{Taken, Refused, Stepped, stepped, Moved, promisedBy, memoryAfter, Remembers, placed, outcome, Here, Settles, Executes, Promises, Moves}
+use Rattle.step.proofs.Backwards.{check-passed}
 
 -- the answer with which nothing moves
-abbrev stays : ℕ → Memory → Thread → Moved
-stays n m s = record { answer = Refused n; memory = m; thread = s }
+abbrev stays : ℕ → Thread → Moved
+stays n s = record { answer = Refused n; thread = s }
+
+-- the answer with which the thread becomes s
+abbrev goes : Thread → Moved
+goes s = record { answer = Taken; thread = s }
 
 -- ---- what a thread that is ready gives
 module _ (c : Code) (m : Memory) (s : Thread) (o : Ready c m s) where
@@ -52,22 +59,31 @@ module _ (c : Code) (m : Memory) (s : Thread) (o : Ready c m s) where
   with-room few = let n : m .count + 1 - 1 ≡ m .count = omega arith in (omega arith, (omega arith, rw n (o .promises-in)))
 
 -- ---- certified or not
+-- a thread without a promise is
+without-promise : (n : ℕ) (c : Code) (i : ℕ) (m : Memory) (s : Thread) → eqb (s .promises) 0 ≡ true → certify n c i m s ≡ true
+unfolding certify
+without-promise zero c i m s h = h
+without-promise (suc n) c i m s h = rw h
+
 module _ (c : Code) (i : ℕ) (m : Memory) (s : Thread) (b : Bool) (d : b ≡ certify (c .count) c i m s) where
   the-test : (p : Program) → codeOf p i ≡ c → certified (codeOf p i) i m s ≡ b
   unfolding certified
   the-test p e = ap (λ (y : Code). certify (y .count) y i m s) e ∙ sym d
 
-  pub settle-yes : b ≡ true → Settles c i m s (record { answer = Taken; memory = m; thread = s })
+  pub settle-yes : b ≡ true → (r : Moved) → r ≡ goes s → Settles c i m s r
   unfolding settle
-  settle-yes q p x e = rw (the-test p e ∙ q)
+  settle-yes q r z p x e = rw (the-test p e ∙ q, z)
 
-  pub settle-no : b ≡ false → (r : Moved) → r ≡ stays 29 m s → Settles c i m s r
+  pub settle-no : b ≡ false → (r : Moved) → r ≡ stays 29 s → Settles c i m s r
   unfolding settle
   settle-no q r z p x e = rw (the-test p e ∙ q, z)
 
+pub settle-free : (c : Code) (i : ℕ) (m : Memory) (s : Thread) (b : Bool) → b ≡ eqb (s .promises) 0 → b ≡ true → (r : Moved) → r ≡ goes s → Settles c i m s r
+settle-free c i m s b d h r z p x e = settle-yes c i m s true (sym (without-promise (c .count) c i m s (sym d ∙ h))) refl r z p x e
+
 -- ---- executing
 module _ (c : Code) (i : ℕ) (m : Memory) (s : Thread) (t : ℕ) (a : Moved) where
-  pub execute-end : c .count ≤ s .position → a ≡ stays 25 m s → Executes c i m s t a
+  pub execute-end : c .count ≤ s .position → a ≡ stays 25 s → Executes c i m s t a
   unfolding executeStep instrAt
   execute-end l z p x h = rw (h .code, h .thread, le-ltb (s .position) (c .count) l, z)
 
@@ -83,16 +99,16 @@ module _ (c : Code) (i : ℕ) (m : Memory) (s : Thread) (t : ℕ) (a : Moved) wh
         the-instr p x h ∙ ap (settleRule p x i) (ruled-done s (execute y m t s) r d z)
         ∙ ap (λ (n : Memory). settle p x i n (r .thread)) (h .memory) ∙ q p x (h .code)
 
-    pub execute-refused : (n : ℕ) → r .answer ≡ rule.Refused n → a ≡ stays n m s → Executes c i m s t a
+    pub execute-refused : (n : ℕ) → r .answer ≡ rule.Refused n → a ≡ stays n s → Executes c i m s t a
     execute-refused n z q p x h = the-instr p x h ∙ ap (settleRule p x i) (ruled-refused s (execute y m t s) r n d z) ∙ rw q
 
 -- ---- promising
 module _ (c : Code) (i : ℕ) (m : Memory) (s : Thread) (l v : ℕ) (a : Moved) where
-  pub promise-23 : 15 < l → a ≡ stays 23 m s → Promises c i m s l v a
+  pub promise-23 : 15 < l → a ≡ stays 23 s → Promises c i m s l v a
   unfolding promiseStep
   promise-23 k z p x h = rw (lt-leb l 15 k, z)
 
-  pub promise-24 : l ≤ 15 → 16 ≤ m .count → a ≡ stays 24 m s → Promises c i m s l v a
+  pub promise-24 : l ≤ 15 → 16 ≤ m .count → a ≡ stays 24 s → Promises c i m s l v a
   unfolding promiseStep
   promise-24 k j z p x h = rw (le-leb l 15 k, h .memory, le-ltb (m .count) 16 j, z)
 
@@ -106,15 +122,16 @@ module _ (c : Code) (i : ℕ) (m : Memory) (s : Thread) (l v : ℕ) (a : Moved) 
 
 -- ---- a step of a thread, by its kind
 module _ (c : Code) (m : Memory) (s : Thread) (k : Step) (a : Moved) where
-  pub kind-execute-22 : k .kind ≡ 0 → (k .b ≡ 0 → ⊥) → a ≡ stays 22 m s → Moves c m s k a
+  pub kind-execute-22 : k .kind ≡ 0 → (k .b ≡ 0 → ⊥) → a ≡ stays 22 s → Moves c m s k a
   unfolding kindStep
   kind-execute-22 e n z p x h = ap (kindStep p x k) e ∙ rw (ne-eqb (k .b) 0 n, z)
 
   pub kind-execute : k .kind ≡ 0 → k .b ≡ 0 → Executes c (k .thread) m s (k .a) a → Moves c m s k a
   unfolding kindStep
-  kind-execute e n q p x h = ap (kindStep p x k) e ∙ rw (eq-eqb (k .b) 0 n) (q p x h)
+  kind-execute e n q p x h =
+      subst (λ (j : ℕ). kindStep p x k j ≡ outcome x (k .thread) (memoryAfter m k j) a) (sym e) (rw (eq-eqb (k .b) 0 n) (q p x h))
 
-  pub kind-22 : (k .kind ≡ 0 → ⊥) → (k .kind ≡ 1 → ⊥) → a ≡ stays 22 m s → Moves c m s k a
+  pub kind-22 : (k .kind ≡ 0 → ⊥) → (k .kind ≡ 1 → ⊥) → a ≡ stays 22 s → Moves c m s k a
   unfolding kindStep
   kind-22 e n z p x h = go (k .kind) e n ∙ rw z
     where
@@ -124,7 +141,36 @@ module _ (c : Code) (m : Memory) (s : Thread) (k : Step) (a : Moved) where
 
   pub kind-promise : k .kind ≡ 1 → k .b < 256 → Promises c (k .thread) m s (k .a) (k .b) a → Moves c m s k a
   unfolding kindStep
-  kind-promise e n q p x h = ap (kindStep p x k) e ∙ rw (le-leb (k .b) 255 (omega arith)) (q p x h)
+  kind-promise e n q p x h =
+      subst (λ (j : ℕ). kindStep p x k j ≡ outcome x (k .thread) (memoryAfter m k j) a) (sym e) (rw (le-leb (k .b) 255 (omega arith)) (q p x h))
+
+-- ---- the memory after a step
+module _ (m : Memory) (k : Step) where
+  pub remembers-same : k .kind ≡ 0 → Remembers m k m
+  remembers-same e h = ap (memoryAfter m k) (sym e)
+
+  pub remembers-none : (k .kind ≡ 0 → ⊥) → 16 ≤ m .count → Remembers m k m
+  remembers-none n l (inl e) = absurd (n e)
+  remembers-none n l (inr f) = absurd (omega arith)
+
+  pub remembers-one : (k .kind ≡ 0 → ⊥) → (r : Memory) → r ≡ append m (promisedBy k) → Remembers m k r
+  remembers-one n r z h = z ∙ go (k .kind) n
+    where
+      go : (j : ℕ) → (j ≡ 0 → ⊥) → append m (promisedBy k) ≡ memoryAfter m k j
+      go zero f = absurd (f refl)
+      go (suc j) f = refl
+
+-- a promise that is taken had room in the memory
+has-room : (p : Program) (x : Machine) (k : Step) (n : ℕ) → n ≡ k .kind → (y : Machine) → kindStep p x k n ≡ accepted y → (k .kind ≡ 0) ⊎ (x .memory .count < 16)
+unfolding kindStep promiseStep
+has-room p x k zero z y e = inl (sym z)
+has-room p x k (suc n) z y e =
+    let a = check-passed (eqb n 0 && leb (k .b) 255) 22 _ y e in
+    let b = check-passed (leb (k .a) 15) 23 _ y (a .1) in
+    inr (ltb→lt (x .memory .count) 16 (check-passed (ltb (x .memory .count) 16) 24 _ y (b .1) .0))
+
+pub room-taken : (p : Program) (x : Machine) (k : Step) (m : Memory) (r : Moved) → kindStep p x k (k .kind) ≡ outcome x (k .thread) m r → r .answer ≡ Taken → (k .kind ≡ 0) ⊎ (x .memory .count < 16)
+room-taken p x k m r e t = has-room p x k (k .kind) refl _ (e ∙ ap (placed x (k .thread) m (r .thread)) t)
 
 -- ---- any step
 module _ (p : Program) (x : Machine) (k : Step) where
@@ -133,13 +179,16 @@ module _ (p : Program) (x : Machine) (k : Step) where
   rule-21 h = rw (le-ltb (k .thread) (p .threads) h)
 
   module _ (h : k .thread < p .threads) (r : Moved) (c : Code) (s : Thread) (d : c ≡ codeOf p (k .thread)) (e : s ≡ threadOf x (k .thread)) (q : Moves c (x .memory) s k r) where
-    by-thread : ruleStep p x k ≡ outcome x (k .thread) r
-    unfolding ruleStep
-    by-thread = rw (lt-ltb (k .thread) (p .threads) h) (q p x (record { code = sym d; memory = refl; thread = sym e }))
+    here : Here c (x .memory) s p x (k .thread)
+    here = record { code = sym d; memory = refl; thread = sym e }
 
-    pub rule-taken : r .answer ≡ Taken → (y : Machine) → y ≡ record { memory = r .memory; threads = set (x .threads) (k .thread) (r .thread) }
+    by-thread : ruleStep p x k ≡ outcome x (k .thread) (memoryAfter (x .memory) k (k .kind)) r
+    unfolding ruleStep
+    by-thread = rw (lt-ltb (k .thread) (p .threads) h) (q p x here)
+
+    pub rule-taken : r .answer ≡ Taken → (m : Memory) → Remembers (x .memory) k m → (y : Machine) → y ≡ record { memory = m; threads = set (x .threads) (k .thread) (r .thread) }
         → _≡_ {A = Stepped} (record { answer = Taken; machine = y }) (stepped x (ruleStep p x k))
-    rule-taken t y z = rw (by-thread, t, z)
+    rule-taken t m w y z = rw (by-thread, t, z, w (room-taken p x k _ r (q p x here) t))
 
     pub rule-refused : (n : ℕ) → r .answer ≡ Refused n → stepped x (rejected n) ≡ stepped x (ruleStep p x k)
     rule-refused n t = rw (by-thread, t)

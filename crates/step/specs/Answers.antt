@@ -1,11 +1,16 @@
--- The answer of a step for the code: taken, or the refusal number, beside the machine; and the answer of a step of one thread.
+-- The answer of a step for the code: taken, or the refusal number, beside the machine; the answer of a step of one thread; a question in parts.
 -- Assumes nothing.
 use mathlib.Core.Path.{_≡_}
-use Prim.Native.Nat.{ℕ}
-use lib.ListN.{set}
-use Rattle.source.specs.Program.{codeOf}
-use Rattle.machine.specs.State.{threadOf}
-use Rattle.step.specs.Below.{Code, Program, Memory, Thread, Machine}
+use mathlib.Core.Bool.{Bool}
+use mathlib.Core.List.{List}
+use mathlib.Core.Logic.{_⊎_}
+use Prim.Native.Nat.{ℕ, zero, suc, _≤_, _<_}
+use lib.ListN.{getD, set}
+use Rattle.source.specs.Tests.{below}
+use Rattle.source.specs.Program.{noCondition, codeOf}
+use Rattle.machine.specs.State.{threadOf, append}
+use Rattle.step.specs.Below.{Code, Condition, Program, Message, Memory, Thread, Machine}
+use Rattle.step.specs.Outcome.{holds}
 use Rattle.step.specs.Step.{Step, Outcome, rejected, accepted, settle, executeStep, promiseStep, kindStep}
 pub use Rattle.step.specs.declared.StepAnswer.{StepAnswer}
 pub use Rattle.step.specs.declared.StepAnswer.the-variants.{Taken, Refused}
@@ -23,13 +28,26 @@ refusalOf Taken = 0
 refusalOf (Refused n) = n
 
 -- ---- a step of one thread
--- what it says of a machine: thread i is replaced, or the number
+-- the message that a promise appends
+abbrev pub promisedBy : Step → Message
+promisedBy k = record { location = k .a; value = k .b; thread = k .thread }
+
+-- the memory after a step that is taken, by its kind
+abbrev pub memoryAfter : Memory → Step → ℕ → Memory
+memoryAfter m k zero = m
+memoryAfter m k (suc n) = append m (promisedBy k)
+
+-- r is that memory; a promise that is taken has room
+abbrev pub Remembers : Memory → Step → Memory → Type 0
+Remembers m k r = (k .kind ≡ 0) ⊎ (m .count < 16) → r ≡ memoryAfter m k (k .kind)
+
+-- what it says of a machine: thread i is replaced, on memory m, or the number
 abbrev pub placed : Machine → ℕ → Memory → Thread → StepAnswer → Outcome
 placed x i m s Taken = accepted (record { memory = m; threads = set (x .threads) i s })
 placed x i m s (Refused n) = rejected n
 
-abbrev pub outcome : Machine → ℕ → Moved → Outcome
-outcome x i r = placed x i (r .memory) (r .thread) (r .answer)
+abbrev pub outcome : Machine → ℕ → Memory → Moved → Outcome
+outcome x i m r = placed x i m (r .thread) (r .answer)
 
 -- thread i of the machine has code c and state s, on memory m
 pub record Here (c : Code) (m : Memory) (s : Thread) (p : Program) (x : Machine) (i : ℕ) : Type 0 where
@@ -39,13 +57,29 @@ pub record Here (c : Code) (m : Memory) (s : Thread) (p : Program) (x : Machine)
 
 -- r is what the definition says, in every machine with such a thread
 abbrev pub Settles : Code → ℕ → Memory → Thread → Moved → Type 0
-Settles c i m s r = (p : Program) (x : Machine) → codeOf p i ≡ c → settle p x i m s ≡ outcome x i r
+Settles c i m s r = (p : Program) (x : Machine) → codeOf p i ≡ c → settle p x i m s ≡ outcome x i m r
 
 abbrev pub Executes : Code → ℕ → Memory → Thread → ℕ → Moved → Type 0
-Executes c i m s t r = (p : Program) (x : Machine) → Here c m s p x i → executeStep p x i t ≡ outcome x i r
+Executes c i m s t r = (p : Program) (x : Machine) → Here c m s p x i → executeStep p x i t ≡ outcome x i m r
 
 abbrev pub Promises : Code → ℕ → Memory → Thread → ℕ → ℕ → Moved → Type 0
-Promises c i m s l v r = (p : Program) (x : Machine) → Here c m s p x i → promiseStep p x i l v ≡ outcome x i r
+Promises c i m s l v r =
+    (p : Program) (x : Machine) → Here c m s p x i → promiseStep p x i l v ≡ outcome x i (append m (record { location = l; value = v; thread = i })) r
 
 abbrev pub Moves : Code → Memory → Thread → Step → Moved → Type 0
-Moves c m s k r = (p : Program) (x : Machine) → Here c m s p x (k .thread) → kindStep p x k (k .kind) ≡ outcome x (k .thread) r
+Moves c m s k r = (p : Program) (x : Machine) → Here c m s p x (k .thread) → kindStep p x k (k .kind) ≡ outcome x (k .thread) (memoryAfter m k (k .kind)) r
+
+-- ---- the question
+-- r is whether the condition holds, in every machine with that memory and the thread that it names
+abbrev pub Holds : Memory → Thread → Condition → Bool → Type 0
+Holds m s q r = (x : Machine) → x .memory ≡ m → threadOf x (q .thread) ≡ s → r ≡ holds x q
+
+-- the first n conditions hold
+abbrev pub allHold : List Condition → Machine → ℕ → Bool
+allHold question x n = below (λ k. holds x (getD question k noCondition)) n
+
+-- what is asked before that: as many conditions as fit, of threads that are there
+pub record Askable (n : ℕ) (question : List Condition) (x : Machine) : Type 0 where
+  pub few : n ≤ 8
+  pub room : x .memory .count ≤ 16
+  pub thread-there : (k : ℕ) → k < n → (getD question k noCondition) .thread < 4

@@ -4,19 +4,23 @@ pub mod outcome;
 
 pub use checked::step;
 ghost use mathlib.Core.Path.{_≡_};
+ghost use mathlib.Core.Option.{some};
+ghost use Rattle.source.specs.Program.{instrAt};
 ghost use Rattle.machine.specs.WellFormed.{Formed};
 ghost use Rattle.certify.specs.Answers.{Ready};
 ghost use Rattle.step.specs.Step.{rejected, ruleStep, step};
-ghost use Rattle.step.specs.Answers.{Refused, stepped, Settles, Executes, Promises, Moves};
+ghost use Rattle.step.specs.Answers.{Taken, Refused, stepped, Settles, Executes, Promises, Moves, Remembers};
 use certify::certify_within;
 use machine::Machine;
 use machine::Memory;
 use machine::Message;
 use machine::RuleAnswer;
 use machine::Thread;
+use machine::promises::is_empty;
 use machine::promises::with;
 use rules::execute;
 use source::Code;
+use source::Instr;
 use source::Program;
 
 // As a trace has it: kind 0 executes at time a, b = 0; kind 1 promises location a, value b.
@@ -47,66 +51,80 @@ pub fn refused(n: u8, x: Machine) -> Stepped
     }
 }
 
-// The answer of a step of one thread; taken, the memory and the thread after it.
+// The answer of a step of one thread; taken, the thread after it.
 pub struct Moved {
     pub answer: StepAnswer,
-    pub memory: Memory,
     pub thread: Thread,
 }
 
-fn stays(n: u8, m: Memory, s: Thread) -> Moved
-    ensures { λ r. ⌜ r ≡ record { answer = Refused n; memory = m; thread = s } ⌝ }
+fn stays(n: u8, s: Thread) -> Moved
+    ensures { λ r. ⌜ r ≡ record { answer = Refused n; thread = s } ⌝ }
 {
     Moved {
         answer: StepAnswer::Refused(n),
-        memory: m,
         thread: s,
     }
 }
 
-// Thread i becomes s on memory m, if it is certified there.
+fn goes(s: Thread) -> Moved
+    ensures { λ r. ⌜ r ≡ record { answer = Taken; thread = s } ⌝ }
+{
+    Moved {
+        answer: StepAnswer::Taken,
+        thread: s,
+    }
+}
+
+// Thread i becomes s on memory m, if it is certified there. Without a promise it is.
 fn settle(c: Code, i: u8, m: Memory, s: Thread) -> Moved
     requires { ⌜ Ready c m s ⌝ }
     ensures { λ r. ⌜ Settles c i m s r ⌝ }
 {
+    if is_empty(s.promises) {
+        return goes(s);
+    }
     if certify_within(c.count, c, i, m, s) {
-        Moved {
-            answer: StepAnswer::Taken,
-            memory: m,
-            thread: s,
-        }
+        goes(s)
     } else {
-        stays(29, m, s)
+        stays(29, s)
     }
 }
 
-// Thread i executes its next instruction at time t.
+// Thread i executes x, its next instruction, at time t.
+pub fn execute_at(x: Instr, c: Code, i: u8, m: Memory, s: Thread, t: u8) -> Moved
+    requires { ⌜ Ready c m s × (instrAt c (s .position) ≡ some x) ⌝ }
+    ensures { λ r. ⌜ Executes c i m s t r ⌝ }
+{
+    let r = execute(x, m, t, s);
+    let answer = r.answer;
+    match answer {
+        RuleAnswer::Done => settle(c, i, m, r.thread),
+        RuleAnswer::Refused(k) => stays(k, s),
+    }
+}
+
+// Thread i executes its next instruction, if there is one, at time t.
 fn execute_step(c: Code, i: u8, m: Memory, s: Thread, t: u8) -> Moved
     requires { ⌜ Ready c m s ⌝ }
     ensures { λ r. ⌜ Executes c i m s t r ⌝ }
 {
     let n = s.position;
     if c.count <= n {
-        return stays(25, m, s);
+        return stays(25, s);
     }
-    let r = execute(c.instr_at(n), m, t, s);
-    let answer = r.answer;
-    match answer {
-        RuleAnswer::Done => settle(c, i, m, r.thread),
-        RuleAnswer::Refused(k) => stays(k, m, s),
-    }
+    execute_at(c.instr_at(n), c, i, m, s, t)
 }
 
 // Thread i promises location l and value v.
-fn promise_step(c: Code, i: u8, m: Memory, s: Thread, l: u8, v: u8) -> Moved
+pub fn promise_step(c: Code, i: u8, m: Memory, s: Thread, l: u8, v: u8) -> Moved
     requires { ⌜ Ready c m s ⌝ }
     ensures { λ r. ⌜ Promises c i m s l v r ⌝ }
 {
     if 15 < l {
-        return stays(23, m, s);
+        return stays(23, s);
     }
     if 16 <= m.count {
-        return stays(24, m, s);
+        return stays(24, s);
     }
     let q = s.with_promises(with(s.promises, m.count + 1));
     let w = Message {
@@ -119,20 +137,38 @@ fn promise_step(c: Code, i: u8, m: Memory, s: Thread, l: u8, v: u8) -> Moved
 }
 
 // The step of a thread that has code c and state s, on memory m.
-pub fn thread_step(c: Code, m: Memory, s: Thread, k: TraceStep) -> Moved
+fn thread_step(c: Code, m: Memory, s: Thread, k: TraceStep) -> Moved
     requires { ⌜ Ready c m s ⌝ }
     ensures { λ r. ⌜ Moves c m s k r ⌝ }
 {
     if k.kind == 0 {
         if k.b != 0 {
-            return stays(22, m, s);
+            return stays(22, s);
         }
         return execute_step(c, k.thread, m, s, k.a);
     }
     if k.kind != 1 {
-        return stays(22, m, s);
+        return stays(22, s);
     }
     promise_step(c, k.thread, m, s, k.a, k.b)
+}
+
+// The memory after a step that is taken: a promise appends its message.
+pub fn memory_after(m: Memory, k: TraceStep) -> Memory
+    ensures { λ r. ⌜ Remembers m k r ⌝ }
+{
+    if k.kind == 0 {
+        return m;
+    }
+    if 16 <= m.count {
+        return m;
+    }
+    let w = Message {
+        location: k.a,
+        value: k.b,
+        thread: k.thread,
+    };
+    m.append(w)
 }
 
 // The step on a program and a machine that are well formed.
@@ -149,7 +185,7 @@ pub fn rule_step(p: Program, x: Machine, k: TraceStep) -> Stepped
     match answer {
         StepAnswer::Taken => Stepped {
             answer: StepAnswer::Taken,
-            machine: x.moved(i, r.memory, r.thread),
+            machine: x.moved(i, memory_after(x.memory, k), r.thread),
         },
         StepAnswer::Refused(n) => refused(n, x),
     }

@@ -1,10 +1,11 @@
 // Complete, and the question asked at the end.
 ghost use mathlib.Core.Path.{_≡_};
 ghost use mathlib.Core.Bool.{_&&_};
-ghost use Prim.Native.Nat.{_≤_, _<_};
+ghost use Prim.Native.Nat.{_≤_};
 ghost use lib.Dec.{eqb};
 ghost use Rattle.machine.specs.WellFormed.{Formed};
-ghost use Rattle.step.specs.Outcome.{complete, lastValue, holds, questionHolds, asked};
+ghost use Rattle.step.specs.Outcome.{complete, lastValue, questionHolds, asked};
+ghost use Rattle.step.specs.Answers.{Holds, allHold, Askable};
 use machine::Machine;
 use machine::Memory;
 use machine::Thread;
@@ -48,31 +49,42 @@ fn last_value(m: Memory, l: u8) -> u8
     0
 }
 
-fn holds(x: Machine, q: Condition) -> bool
-    requires { ⌜ (x .memory .count ≤ 16) × (q .kind ≡ 0 → q .thread < 4) ⌝ }
-    ensures { λ r. ⌜ r ≡ holds x q ⌝ }
+fn holds(m: Memory, s: Thread, q: Condition) -> bool
+    requires { ⌜ m .count ≤ 16 ⌝ }
+    ensures { λ r. ⌜ Holds m s q r ⌝ }
 {
     if q.kind == 0 {
-        let s = x.thread_of(q.thread);
         let r = s.register_at(q.index);
         r.value == q.value
     } else {
-        last_value(x.memory, q.index) == q.value
+        last_value(m, q.index) == q.value
     }
+}
+
+// The first n conditions, until one fails. They come without the program, which would be copied for them.
+fn all_hold(n: u8, question: [Condition; 8], x: Machine) -> bool
+    requires { ⌜ Askable n question x ⌝ }
+    ensures { λ r. ⌜ r ≡ allHold question x n ⌝ }
+{
+    let mut k = 0u8;
+    while k < n {
+        let q = question[k as usize];
+        let i = q.thread;
+        if holds(x.memory, x.threads[i as usize], q) {
+            k += 1;
+        } else {
+            return false;
+        }
+    }
+    true
 }
 
 fn question_holds(p: Program, x: Machine) -> bool
     requires { ⌜ Formed p x ⌝ }
     ensures { λ r. ⌜ r ≡ questionHolds p x ⌝ }
 {
-    let n = p.conditions;
-    let mut ok = true;
-    for k in 0..n {
-        let j = k as usize;
-        let q = p.question[j];
-        ok = holds(x, q) & ok;
-    }
-    ok
+    let question = p.question;
+    all_hold(p.conditions, question, x)
 }
 
 // Complete, with the asked outcome.

@@ -1,11 +1,13 @@
 -- What the code of a visit relies on, on plain values: where it stands in the search, and what each answer below a step says of it.
 -- Assumes nothing.
 use mathlib.Core.Path.{_≡_, refl, sym, ap, subst, _∙_}
-use mathlib.Core.Bool.{Bool, true, false, cond}
+use mathlib.Core.Bool.{Bool, true, false, cond, _&&_}
+use mathlib.Core.Option.{some}
 use mathlib.Core.List.{List, [], _∷_}
-use Prim.Native.Nat.{ℕ, suc, _+_, _-_, _*_, _≤_, _<_}
+use Prim.Native.Nat.{ℕ, zero, suc, _+_, _-_, _*_, _≤_, _<_}
+use native.Mathlib.Decide.{decLt}
 use native.Mathlib.Omega.{arith}
-use lib.Dec.{ltb}
+use lib.Dec.{T, eqb, ltb, eqb→eq}
 use lib.ListN.{length, getD, set}
 use Rattle.source.specs.declared.Code.{Code}
 use Rattle.source.specs.declared.Program.{Program}
@@ -13,10 +15,14 @@ use Rattle.machine.specs.declared.Memory.{Memory}
 use Rattle.machine.specs.declared.Thread.{Thread}
 use Rattle.machine.specs.declared.Machine.{Machine}
 use Rattle.machine.specs.State.{threadOf}
-use Rattle.source.specs.Program.{codeOf}
+use Rattle.source.specs.Program.{instrAt, codeOf}
+use Rattle.source.specs.declared.Instr.{Instr}
+use Rattle.source.proofs.Tests.{and-left, below-at}
+use Rattle.source.proofs.Shape.{program-iff}
+use Rattle.machine.specs.WellFormed.{Formed}
 use Rattle.source.proofs.Arrays.{getD-any}
 use Rattle.certify.specs.Answers as certified
-use Rattle.certify.proofs.Asked.{of-four, ready-here}
+use Rattle.certify.proofs.Asked.{program-facts, of-four, ready-here}
 use Rattle.values.specs.Lists.{put}
 use Rattle.values.proofs.Putting.{put-none}
 use Rattle.sequences.proofs.Scan.{Scan, going, found, out, andThen, under, found-short}
@@ -24,20 +30,21 @@ use Rattle.step.specs.Step.{Step, accepted, rejected, step}
 use Rattle.step.specs.declared.StepAnswer.the-variants.{Taken, Refused}
 use Rattle.step.specs.declared.Moved.{Moved}
 use Rattle.step.specs.Order.{execution}
-use Rattle.step.specs.Answers.{Here, Moves}
+use Rattle.step.specs.Answers.{Here, Remembers, Moves}
 use Rattle.step.proofs.Answered.{thread-taken, thread-refused}
-use Rattle.step.specs.Outcome.{asked}
+use Rattle.step.specs.Outcome.{complete, questionHolds, asked}
 use Rattle.step.specs.Trace.{stepBytes, traceBytes}
 use Rattle.step.proofs.Bound.{potential, lowers}
 use Rattle.step.proofs.Kept.{kept}
 use Rattle.listing.specs.Listing.{stepping}
 use Rattle.listing.proofs.Keys.{keyPromise}
-use Rattle.visits.specs.Visits.{Ran, Going, Found, Out, visiting, trying, Tells, Ready, stepAt, Next}
+use Rattle.visits.specs.Visits.{Ran, Going, Found, Out, visiting, trying, atEnd, NextOpen, Tells, Ready, stepAt, Numbered, Next}
 use Rattle.listing.proofs.Machine.{lawful}
 use Rattle.visits.specs.Worthwhile.{Attempts, Worth}
 use Rattle.visits.proofs.Ranges.{steps-from, next-step, at-end, stepsOf, threads-from, all-threads, next-thread, by-number}
 use Rattle.visits.proofs.Parts.{visiting-is, none-left, is-wanted, not-wanted, no-step, two-parts, step-refused, step-accepted}
 use Rattle.visits.proofs.Skipped.{no-more-threads, passed-over}
+use Rattle.visits.proofs.Worth.{nothing-left}
 use Rattle.visits.proofs.Telling.{trace-length, put-under, went-on}
 
 -- one part after another, and then a third
@@ -87,6 +94,23 @@ module _ (p : Program) (x : Machine) where
     thread-done i k rest h w =
         w ∙ ap (λ (o : Scan Step). andThen o (λ b. trying p x (threads-from (i + 1)) b))
         (ap (λ (q : List Step). trying p x q rest) (at-end (stepAt i) 4113 k h) ∙ no-step p x rest)
+
+    -- a thread at its end has no step, nor have those up to the next that is not
+    pub past-thread : (i rest : ℕ) → i < 4 → (codeOf p i) .count ≤ (threadOf x i) .position → BeforeThread whole i rest → BeforeThread whole (i + 1) rest
+    past-thread i rest l e w =
+        let g : Here (codeOf p i) (x .memory) (threadOf x i) p x i = record { code = refl; memory = refl; thread = refl } in
+        thread-done i 4113 rest (omega arith) (first-try i 4113 rest g l (nothing-left _ _ _ e) w)
+
+    pub past-threads : (n i r rest : ℕ) → i + n ≡ r → NextOpen p x i r → BeforeThread whole i rest → BeforeThread whole r rest
+    past-threads zero i r rest e o w = let same : i ≡ r = omega arith in subst (λ (j : ℕ). BeforeThread whole j rest) same w
+    past-threads (suc n) i r rest e o w =
+        let top = o .within in
+        past-threads n (i + 1) r rest (omega arith)
+        (record { within = top; after = omega arith; has-next = o .has-next; ended = λ k l u. o .ended k (omega arith) u })
+        (past-thread i rest (omega arith) (o .ended i (omega arith) (omega arith)) w)
+
+    pub to-open : (i r rest : ℕ) → NextOpen p x i r → BeforeThread whole i rest → BeforeThread whole r rest
+    to-open i r rest o w = let a = o .after in past-threads (r - i) i r rest (omega arith) o w
 
     -- ---- at step k of thread i
     module _ (i k rest : ℕ) (l : k < 4113) (w : BeforeStep whole i k rest) where
@@ -146,6 +170,41 @@ module _ (p : Program) (x : Machine) where
                   lent = put-it ∙ rw (f, place, u .lent, place') (put-under (6 * d) (stepAt i k) s' old (omega arith));
                 })
 
+-- ---- all threads at their end, or one that is not
+pub at-the-end : (p : Program) (x : Machine) (d left : ℕ) (area : List ℕ) → (left ≡ 0 → ⊥) → (i : ℕ) → NextOpen p x 0 i → i ≡ 4 → Formed p x
+    → Tells d (visiting p x left) (atEnd d (left - 1) (asked p x)) area area
+at-the-end p x d left area h i o e well = go (asked p x) refl
+  where
+    go : (b : Bool) → asked p x ≡ b → Tells d (visiting p x left) (atEnd d (left - 1) b) area area
+    go true w = found-here p x d left area (omega (arith, h)) w
+    go false w =
+        let few = program-facts p x well .few-threads in
+        let stands = to-open p x 0 i (left - 1) o (begins p x left (omega (arith, h)) w) in
+        subst (λ (o : Scan Step). Tells d o (Going (left - 1)) area area) (sym (all-done p x i (left - 1) (omega arith) stands)) (record { answer = refl; lent = refl })
+
+-- a thread that is not at its end is one of the program's
+has-thread : (p : Program) (x : Machine) → Formed p x → (i : ℕ) → i < 4 → (threadOf x i) .position < (codeOf p i) .count → i < p .threads
+has-thread p x o i h l = elim (decLt i (p .threads)) [
+  | yes b ↦ b
+  | no b ↦ absurd (let z = program-iff p .0 (o .program-formed) .idle i (omega arith) h in omega arith)
+]
+
+-- a machine with a thread that is not at its end is not complete
+not-asked : (p : Program) (x : Machine) (i : ℕ) → i < p .threads → (threadOf x i) .position < (codeOf p i) .count → asked p x ≡ false
+unfolding asked complete
+not-asked p x i h l = go (complete p x) refl
+  where
+    done : ℕ → Bool
+    done j = eqb ((threadOf x j) .position) ((codeOf p j) .count) && eqb ((threadOf x j) .promises) 0
+
+    go : (b : Bool) → complete p x ≡ b → (b && questionHolds p x) ≡ false
+    go false e = refl
+    go true e =
+        absurd
+        (let t = and-left (eqb ((threadOf x i) .position) ((codeOf p i) .count)) (eqb ((threadOf x i) .promises) 0) (below-at done (p .threads) (subst T (sym e) tt) i h) in
+        let same = eqb→eq ((threadOf x i) .position) ((codeOf p i) .count) t in
+        omega arith)
+
 -- ---- what the loops know
 -- before thread i
 pub record AtThread (p : Program) (x : Machine) (d left : ℕ) (old : List ℕ) (m : Memory) (area : List ℕ) (rest i : ℕ) : Type 0 where
@@ -154,17 +213,27 @@ pub record AtThread (p : Program) (x : Machine) (d left : ℕ) (old : List ℕ) 
   pub four-codes : length (p .codes) ≡ 4
   pub four-threads : length (x .threads) ≡ 4
   pub same : area ≡ old
+  pub has-next : i < 4 → (threadOf x i) .position < (codeOf p i) .count
   pub stands : BeforeThread p x (visiting p x left) i rest
 
--- before step k of thread i, which has code c and state s
-pub record AtStep (p : Program) (x : Machine) (d left : ℕ) (old : List ℕ) (m : Memory) (i : ℕ) (c : Code) (s : Thread) (t : Attempts) (area : List ℕ) (rest k : ℕ) : Type 0 where
+-- before step k of thread i, which has code c, state s and the next instruction y
+pub record AtStep (p : Program) (x : Machine) (d left : ℕ) (old : List ℕ) (m : Memory) (i : ℕ) (c : Code) (s : Thread) (y : Instr) (t : Attempts) (area : List ℕ) (rest k : ℕ) : Type 0 where
   pub ready : Ready p x d old
   pub here : Here c m s p x i
+  pub next-is : instrAt c (s .position) ≡ some y
   pub worth : Worth c m s t
   pub in-program : i < p .threads
   pub in-range : k ≤ 4113
   pub same : area ≡ old
   pub stands : BeforeStep p x (visiting p x left) i k rest
+
+pub is-numbered : (i k : ℕ) (s : Step) → s ≡ stepAt i k → Numbered s
+unfolding stepAt
+is-numbered i k s e = subst Numbered (sym e) (go (ltb k 17))
+  where
+    go : (b : Bool) → Numbered (cond b (execution i k) (keyPromise i (k - 17)))
+    go true = (λ h. refl, omega arith)
+    go false = (λ h. absurd (omega arith), omega arith)
 
 step-thread : (i k : ℕ) → (stepAt i k) .thread ≡ i
 unfolding stepAt
@@ -175,61 +244,82 @@ step-thread i k = go (ltb k 17)
     go false = refl
 
 module _ {p : Program} {x : Machine} {d left : ℕ} {old : List ℕ} {m : Memory} where
-  pub enters : Ready p x d old → (left ≡ 0 → ⊥) → (b : Bool) → b ≡ asked p x → b ≡ false → m ≡ x .memory → length (p .codes) ≡ 4 → length (x .threads) ≡ 4
-      → AtThread p x d left old m old (left - 1) 0
-  enters o h b e f z q w =
-      record { ready = o; memory = z; four-codes = q; four-threads = w; same = refl; stands = begins p x left (omega (arith, h)) (sym e ∙ f) }
+  pub enters : Ready p x d old → (left ≡ 0 → ⊥) → (i : ℕ) → NextOpen p x 0 i → (i ≡ 4 → ⊥) → m ≡ x .memory → length (p .codes) ≡ 4 → length (x .threads) ≡ 4
+      → AtThread p x d left old m old (left - 1) i
+  enters o h i n four z q w =
+      let top = n .within in
+      let l : i < 4 = omega (arith, four) in
+      record {
+        ready = o;
+        memory = z;
+        four-codes = q;
+        four-threads = w;
+        same = refl;
+        has-next = n .has-next;
+        stands = to-open p x 0 i (left - 1) n (begins p x left (omega (arith, h)) (not-asked p x i (has-thread p x (o .well) i l (n .has-next l)) (n .has-next l)));
+      }
 
   module _ {area : List ℕ} {rest i : ℕ} (T : AtThread p x d left old m area rest i) where
-    pub in-four : i < p .threads → i < 4
-    in-four h = of-four p x (T .ready .well) i h
+    pub in-program : i < 4 → i < p .threads
+    in-program h = has-thread p x (T .ready .well) i h (T .has-next h)
 
     -- what is read from the arrays
-    pub code-at : i < p .threads → (e : Code) → getD (p .codes) i e ≡ codeOf p i
+    pub code-at : i < 4 → (e : Code) → getD (p .codes) i e ≡ codeOf p i
     unfolding codeOf
-    code-at h e = let l = in-four h in let q = T .four-codes in getD-any _ _ (p .codes) i (omega arith)
+    code-at h e = let q = T .four-codes in getD-any _ _ (p .codes) i (omega arith)
 
-    pub thread-at : i < p .threads → (e : Thread) → getD (x .threads) i e ≡ threadOf x i
-    thread-at h e = let l = in-four h in let q = T .four-threads in getD-any _ _ (x .threads) i (omega arith)
+    pub thread-at : i < 4 → (e : Thread) → getD (x .threads) i e ≡ threadOf x i
+    thread-at h e = let q = T .four-threads in getD-any _ _ (x .threads) i (omega arith)
 
-    pub thread-ready : i < p .threads → (c : Code) (s : Thread) → c ≡ codeOf p i → s ≡ threadOf x i → certified.Ready c m s
-    thread-ready h c s e f = rw (e, f, T .memory) (ready-here p x (T .ready .well) i h)
+    pub thread-ready : i < 4 → (c : Code) (s : Thread) → c ≡ codeOf p i → s ≡ threadOf x i → certified.Ready c m s
+    thread-ready h c s e f = rw (e, f, T .memory) (ready-here p x (T .ready .well) i (in-program h))
 
-    pub first : i < p .threads → (c : Code) (s : Thread) → c ≡ codeOf p i → s ≡ threadOf x i → (t : Attempts) → Worth c m s t → (k : ℕ) → Next stepAt 4113 c m s 0 k → AtStep p x d left area m i c s t area rest k
-    first h c s e f t w k nx =
+    pub next-there : i < 4 → (c : Code) (s : Thread) → c ≡ codeOf p i → s ≡ threadOf x i → (s .position < 16) × (s .position < c .count)
+    next-there h c s e f =
+        let l : s .position < c .count = rw (e, f) (T .has-next h) in
+        let b = thread-ready h c s e f .code-ok .short in
+        (omega arith, l)
+
+    pub first : i < 4 → (c : Code) (s : Thread) → c ≡ codeOf p i → s ≡ threadOf x i → (y : Instr) → instrAt c (s .position) ≡ some y → (t : Attempts) → Worth c m s t → (k : ℕ) → Next stepAt 4113 c m s 0 k
+        → AtStep p x d left area m i c s y t area rest k
+    first h c s e f y is-next t w k nx =
         let g : Here c m s p x i = record { code = sym e; memory = sym (T .memory); thread = sym f } in
         record {
           ready = subst (Ready p x d) (sym (T .same)) (T .ready);
           here = g;
+          next-is = is-next;
           worth = w;
-          in-program = h;
+          in-program = in-program h;
           in-range = nx .within;
           same = refl;
-          stands = first-try p x i k rest g (in-four h) nx (T .stands);
+          stands = first-try p x i k rest g h nx (T .stands);
         }
 
-    pub ends : p .threads ≤ i → Tells d (visiting p x left) (Going rest) old area
+    pub ends : 4 ≤ i → Tells d (visiting p x left) (Going rest) old area
     ends h =
-        subst (λ (o : Scan Step). Tells d o (Going rest) old area) (sym (all-done p x i rest h (T .stands)))
+        let few = program-facts p x (T .ready .well) .few-threads in
+        subst (λ (o : Scan Step). Tells d o (Going rest) old area) (sym (all-done p x i rest (omega arith) (T .stands)))
         (record { answer = refl; lent = T .same })
 
     -- all steps of the thread are done
-    pub leaves : {c : Code} {s : Thread} {t : Attempts} {area' : List ℕ} {rest' k : ℕ} → AtStep p x d left area m i c s t area' rest' k → 4113 ≤ k → AtThread p x d left old m area' rest' (i + 1)
-    leaves {c} {s} {t} {area'} {rest'} {k} U h =
+    pub leaves : {c : Code} {s : Thread} {y : Instr} {t : Attempts} {area' : List ℕ} {rest' k : ℕ} → AtStep p x d left area m i c s y t area' rest' k → 4113 ≤ k → (r : ℕ) → NextOpen p x (i + 1) r
+        → AtThread p x d left old m area' rest' r
+    leaves {c} {s} {y} {t} {area'} {rest'} {k} U h r n =
         record {
           ready = T .ready;
           memory = T .memory;
           four-codes = T .four-codes;
           four-threads = T .four-threads;
           same = U .same ∙ T .same;
-          stands = thread-done p x i k rest' h (U .stands);
+          has-next = n .has-next;
+          stands = to-open p x (i + 1) r rest' n (thread-done p x i k rest' h (U .stands));
         }
 
     -- an answer within the thread's steps is one of the whole
     pub answers : {r : Ran} {new : List ℕ} → Tells d (visiting p x left) r area new → Tells d (visiting p x left) r old new
     answers {r} {new} t = subst (λ (a : List ℕ). Tells d (visiting p x left) r a new) (T .same) t
 
-  module _ {i : ℕ} {c : Code} {s : Thread} {t : Attempts} {area : List ℕ} {rest k : ℕ} (U : AtStep p x d left old m i c s t area rest k) where
+  module _ {i : ℕ} {c : Code} {s : Thread} {w : Instr} {t : Attempts} {area : List ℕ} {rest k : ℕ} (U : AtStep p x d left old m i c s w t area rest k) where
     pub step-ready : certified.Ready c m s
     step-ready =
         let h = U .here in
@@ -239,16 +329,17 @@ module _ {p : Program} {x : Machine} {d left : ℕ} {old : List ℕ} {m : Memory
 
     -- on to the next try, with b left
     pub on : (b rest' k' : ℕ) (mid new : List ℕ) → k < 4113 → BeforeStep p x (visiting p x left) i (k + 1) b × (mid ≡ area) → new ≡ mid → rest' ≡ b
-        → Next stepAt 4113 c m s (k + 1) k' → AtStep p x d left old m i c s t new rest' k'
-    on b rest' k' mid new l w e f nx =
+        → Next stepAt 4113 c m s (k + 1) k' → AtStep p x d left old m i c s w t new rest' k'
+    on b rest' k' mid new l v e f nx =
         record {
           ready = U .ready;
           here = U .here;
+          next-is = U .next-is;
           worth = U .worth;
           in-program = U .in-program;
           in-range = nx .within;
-          same = e ∙ w .1 ∙ U .same;
-          stands = to-next p x i (k + 1) k' rest' (U .here) (omega arith) nx (subst (BeforeStep p x (visiting p x left) i (k + 1)) (sym f) (w .0));
+          same = e ∙ v .1 ∙ U .same;
+          stands = to-next p x i (k + 1) k' rest' (U .here) (omega arith) nx (subst (BeforeStep p x (visiting p x left) i (k + 1)) (sym f) (v .0));
         }
 
     module _ (l : k < 4113) (k' : Step) (e : k' ≡ stepAt i k) (r : Moved) (q : Moves c m s k' r) where
@@ -266,12 +357,12 @@ module _ {p : Program} {x : Machine} {d left : ℕ} {old : List ℕ} {m : Memory
           refused-on p x i k rest l (U .stands) n
           (subst (λ (y : Step). step p x y ≡ rejected n) e (thread-refused p x (U .ready .well) k' in-program-too here-too r q n h))
 
-      module _ (h : r .answer ≡ Taken) (y : Machine) (z : y ≡ record { memory = r .memory; threads = set (x .threads) i (r .thread) }) where
+      module _ (h : r .answer ≡ Taken) (n : Memory) (v : Remembers m k' n) (y : Machine) (z : y ≡ record { memory = n; threads = set (x .threads) i (r .thread) }) where
         is-accepted : step p x (stepAt i k) ≡ accepted y
         is-accepted =
             subst (λ (j : Step). step p x j ≡ accepted y) e
-            (thread-taken p x (U .ready .well) k' in-program-too here-too r q h y
-            (z ∙ ap (λ (j : ℕ). record { memory = r .memory; threads = set (x .threads) j (r .thread) }) (sym thread-is)))
+            (thread-taken p x (U .ready .well) k' in-program-too here-too r q h n v y
+            (z ∙ ap (λ (j : ℕ). record { memory = n; threads = set (x .threads) j (r .thread) }) (sym thread-is)))
 
         pub lower : potential p y < potential p x
         lower = lowers p x y (stepAt i k) is-accepted

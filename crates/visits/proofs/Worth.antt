@@ -82,13 +82,17 @@ module _ (c : Code) (m : Memory) (s : Thread) where
   no-promise : storesFrom c (s .position) ≤ ones (s .promises) → (p : Program) (x : Machine) (i : ℕ) → Here c m s p x i → (n : ℕ) → taken (step p x (keyPromise i n)) ≡ none
   no-promise full p x i h n = no-store-left p x i (n / 256) (n % 256) (rw (h .code, h .thread) full)
 
-  -- a thread at its end tries nothing
-  pub nothing-left : c .count ≤ s .position → Worth c m s (record { zero = false; later = 0; promises = false })
+  -- all steps of a thread at its end are refused
+  pub nothing-left : c .count ≤ s .position → Next stepAt 4113 c m s 0 4113
   nothing-left e =
       let z = stores-end c (s .position) e in
       record {
-        times = λ p x i g k l. no-instruction p x i k (rw (g .code, g .thread) e);
-        promises = λ l. no-promise (omega arith);
+        within = omega arith;
+        after = λ l. l;
+        refused = λ p x i g j a u. elim (decLt j 17) [
+          | yes b ↦ ap (λ (y : Step). taken (step p x y)) (sym (at-time i j b)) ∙ no-instruction p x i j (rw (g .code, g .thread) e)
+          | no b ↦ ap (λ (y : Step). taken (step p x y)) (sym (at-key i j (omega arith))) ∙ no-promise (omega arith) p x i g (j - 17)
+        ];
       }
 
   -- what the next instruction and the stores that are left give

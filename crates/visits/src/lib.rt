@@ -1,19 +1,24 @@
 // The visits: a state, then each state that an accepted step leads to. The trace is written on the way back.
+mod threads;
 mod times;
 mod tries;
 
 ghost use mathlib.Core.Path.{_≡_};
 ghost use Prim.Native.Nat.{_+_, _≤_};
 ghost use lib.ListN.{length};
+ghost use Rattle.machine.specs.WellFormed.{Formed};
+ghost use Rattle.step.specs.Outcome.{asked};
 ghost use Rattle.step.specs.Trace.{stepBytes};
 ghost use Rattle.values.specs.Lists.{put};
-ghost use Rattle.visits.specs.Visits.{visiting, Tells, Ready};
+ghost use Rattle.visits.specs.Visits.{visiting, atEnd, Tells, Ready};
 use machine::Machine;
 use source::Program;
 use step::StepAnswer;
 use step::TraceStep;
+use step::memory_after;
 use step::outcome::asked;
-use step::thread_step;
+use threads::next_open;
+use tries::attempt;
 use tries::next_try;
 use tries::step_at;
 use tries::tries_of;
@@ -46,6 +51,17 @@ fn put_step(area: &mut [u8], at: usize, k: TraceStep)
     area[at + 5] = k.b;
 }
 
+// A state with all threads at their end: nothing follows it.
+fn at_end(p: Program, x: Machine, depth: usize, rest: u32) -> Ran
+    requires { ⌜ Formed p x ⌝ }
+    ensures { λ r. ⌜ r ≡ atEnd depth rest (asked p x) ⌝ }
+{
+    if asked(p, x) {
+        return Ran::Found(rest, depth);
+    }
+    Ran::Going(rest)
+}
+
 // Visits x, to which `depth` steps have led, and then each state that an accepted step leads to: threads ascending; within
 // one, executions by time, then promises by location, then value. A refused step costs nothing.
 pub fn visit(p: Program, x: Machine, depth: usize, left: u32, area: &mut [u8]) -> Ran
@@ -55,23 +71,27 @@ pub fn visit(p: Program, x: Machine, depth: usize, left: u32, area: &mut [u8]) -
     if left == 0 {
         return Ran::Out;
     }
-    if asked(p, x) {
-        return Ran::Found(left - 1, depth);
+    let mut i = next_open(p, x, 0);
+    if i == 4 {
+        return at_end(p, x, depth, left - 1);
     }
     let m = x.memory;
     let mut rest = left - 1;
-    let mut i = 0u8;
-    while i < p.threads {
+    while i < 4 {
         let c = p.codes[i as usize];
         let s = x.threads[i as usize];
-        let t = tries_of(c, m, s);
+        let w = c.instr_at(s.position);
+        let t = tries_of(w, c, m, s);
         let mut k = next_try(t, c, m, s, 0);
         while k < 4113 {
             let step = step_at(i, k);
-            let r = thread_step(c, m, s, step);
+            let r = attempt(w, c, m, s, step);
             let answer = r.answer;
             if let StepAnswer::Taken = answer {
-                let next = x.moved(i, r.memory, r.thread);
+                let mut next = x;
+                next.memory = memory_after(m, step);
+                let q = r.thread;
+                next.threads[i as usize] = q;
                 match visit(p, next, depth + 1, rest, area) {
                     Ran::Going(b) => rest = b,
                     Ran::Found(b, n) => {
@@ -83,7 +103,7 @@ pub fn visit(p: Program, x: Machine, depth: usize, left: u32, area: &mut [u8]) -
             }
             k = next_try(t, c, m, s, k + 1);
         }
-        i += 1;
+        i = next_open(p, x, i + 1);
     }
     Ran::Going(rest)
 }

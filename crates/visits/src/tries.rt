@@ -1,12 +1,15 @@
 // The next steps of one thread that are worth a try, by their number: 0 to 16 execute at that time, from 17 on promise
 // location l with value v as 17 + 256 · l + v.
 ghost use mathlib.Core.Path.{_≡_};
+ghost use mathlib.Core.Option.{some};
 ghost use Prim.Native.Nat.{_≤_, _<_};
+ghost use Rattle.source.specs.Program.{instrAt};
 ghost use Rattle.source.specs.Counts.{storesFrom};
+ghost use Rattle.step.specs.Answers.{Moves};
 ghost use Rattle.step.specs.Order.{execution, promise};
 ghost use Rattle.certify.specs.Answers.{Ready};
 ghost use Rattle.listing.proofs.Keys.{keyPromise};
-ghost use Rattle.visits.specs.Visits.{stepAt, Next};
+ghost use Rattle.visits.specs.Visits.{stepAt, Next, Numbered};
 ghost use Rattle.visits.specs.Worthwhile.{Worth, NextTime};
 use crate::Attempts;
 use crate::times::after;
@@ -17,7 +20,11 @@ use candidates::pass::possible_stores;
 use machine::Memory;
 use machine::Thread;
 use source::Code;
+use source::Instr;
+use step::Moved;
 use step::TraceStep;
+use step::execute_at;
+use step::promise_step;
 
 fn execution(i: u8, t: u8) -> TraceStep
     ensures { λ r. ⌜ r ≡ execution i t ⌝ }
@@ -67,24 +74,16 @@ fn stores_from(c: Code, n: u8) -> u8
     r
 }
 
-// What is worth a try of a thread: time 0, later times, and promises unless each store that is left has one.
-pub fn tries_of(c: Code, m: Memory, s: Thread) -> Attempts
-    requires { ⌜ Ready c m s ⌝ }
+// What is worth a try of a thread with the next instruction x: time 0, later times, and promises unless each store that is left
+// has one.
+pub fn tries_of(x: Instr, c: Code, m: Memory, s: Thread) -> Attempts
+    requires { ⌜ Ready c m s × (instrAt c (s .position) ≡ some x) ⌝ }
     ensures { λ r. ⌜ Worth c m s r ⌝ }
 {
-    let n = s.position;
-    if c.count <= n {
-        return Attempts {
-            zero: false,
-            later: 0,
-            promises: false,
-        };
-    }
-    let x = c.instr_at(n);
     Attempts {
         zero: at_zero(x),
         later: later_times(x, m, s),
-        promises: u16::count_ones(s.promises) < stores_from(c, n) as u32,
+        promises: u16::count_ones(s.promises) < stores_from(c, s.position) as u32,
     }
 }
 
@@ -125,4 +124,15 @@ pub fn next_try(t: Attempts, c: Code, m: Memory, s: Thread, from: u16) -> u16
         return k as u16;
     }
     next_promise(t, c, m, s, 0) + 17
+}
+
+// The step of a thread with the next instruction x. A step that has a number is of one of the two kinds.
+pub fn attempt(x: Instr, c: Code, m: Memory, s: Thread, k: TraceStep) -> Moved
+    requires { ⌜ Ready c m s × (instrAt c (s .position) ≡ some x) × Numbered k ⌝ }
+    ensures { λ r. ⌜ Moves c m s k r ⌝ }
+{
+    if k.kind == 0 {
+        return execute_at(x, c, k.thread, m, s, k.a);
+    }
+    promise_step(c, k.thread, m, s, k.a, k.b)
 }

@@ -32,9 +32,13 @@ thread-step-requires c κs = thread-ready _ _ (c .before .before .before .before
 enum-told : tie.Need-enum-told
 enum-told c = search needs
 
+-- src/lib.rt:151:30
+memory-after-requires : tie.Need-memory-after-requires
+memory-after-requires c κs = search needs
+
 -- src/lib.rt:151:22
 moved-requires : tie.Need-moved-requires
-moved-requires c κs = of-four _ _ (c .before .before .before .before .before .before .before .pre) _ (c .before .before .before .before .before .if1 .left)
+moved-requires c κs = of-four _ _ (c .before .before .before .before .before .before .before .before .pre) _ (c .before .before .before .before .before .before .if1 .left)
 
 -- src/lib.rt:153:29
 enum-known-answer : tie.Need-enum-known-answer
@@ -46,7 +50,7 @@ refused-requires-2 c κs = search needs
 
 -- src/lib.rt:138:1
 returns-2 : tie.Need-returns-2
-returns-2 c = rule-taken _ _ _ (c .before .before .before .before .before .before .if1 .left) _ _ _ (c .before .before .before .before .before .code-of .ensures) (c .before .before .before .before .thread-of .ensures) (c .before .before .before .thread-step .ensures) (c .before .enum-told .given .1) _ (c .moved .ensures)
+returns-2 c = rule-taken _ _ _ (c .before .before .before .before .before .before .before .if1 .left) _ _ _ (c .before .before .before .before .before .before .code-of .ensures) (c .before .before .before .before .before .thread-of .ensures) (c .before .before .before .before .thread-step .ensures) (c .before .before .enum-told .given .1) _ (c .before .memory-after .ensures) _ (c .moved .ensures)
 
 -- src/lib.rt:138:1
 returns-3 : tie.Need-returns-3
@@ -62,6 +66,7 @@ rule-step-spec =
     thread-of-requires
     thread-step-requires
     enum-told
+    memory-after-requires
     moved-requires
     enum-known-answer
     refused-requires-2
