@@ -22,7 +22,7 @@ use Rattle.source.proofs.Shape.{program-iff}
 use Rattle.machine.specs.WellFormed.{Formed}
 use Rattle.source.proofs.Arrays.{getD-any}
 use Rattle.certify.specs.Answers as certified
-use Rattle.certify.proofs.Asked.{program-facts, of-four, ready-here}
+use Rattle.certify.proofs.Asked.{program-facts, ready-here}
 use Rattle.values.specs.Lists.{put}
 use Rattle.values.proofs.Putting.{put-none}
 use Rattle.sequences.proofs.Scan.{Scan, going, found, out, andThen, under, found-short}

@@ -2,7 +2,6 @@
 ghost use mathlib.Core.Path.{_≡_};
 ghost use Prim.Native.Nat.{_≤_};
 ghost use lib.Dec.{ltb};
-ghost use Rattle.machine.specs.WellFormed.{Formed};
 ghost use Rattle.visits.specs.Visits.{firstOf, NextOpen};
 use machine::Machine;
 use machine::Thread;

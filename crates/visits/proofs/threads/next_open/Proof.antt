@@ -2,10 +2,9 @@
 -- Assumes nothing.
 use lib.ListN.{length}
 use native.Mathlib.Omega.{arith}
-use mathlib.Core.Path.{_≡_, sym}
+use mathlib.Core.Path.{_≡_}
 use borrow.Author.Needs.{needs}
 use Rattle.source.proofs.Arrays.{length-mapped}
-use Rattle.visits.specs.Visits.{NextOpen}
 use Rattle.visits.proofs.Open.{next-of-four, asks-read}
 use Rattle.visits.proofs.threads.next_open.Statement.{statement}
 use Rattle.visits.proofs.threads.next_open.Tie as tie
