@@ -1,4 +1,0 @@
-// The printing program with a budget that is one too small.
-fn main() {
-    judging::judge();
-}

@@ -1,4 +1,0 @@
-// The printing program on empty input.
-fn main() {
-    judging::judge();
-}
