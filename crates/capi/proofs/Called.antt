@@ -7,24 +7,14 @@ use native.Mathlib.Nat.{zero-add}
 use lib.ListN.{length, drop}
 use borrow.Author.Tests.{lt-ltb, le-ltb, eq-eqb, ne-eqb}
 use Rattle.source.specs.declared.Program.{Program}
-use Rattle.source.specs.declared.FileRead.{FileRead}
-use Rattle.source.specs.File.{readFile}
-use Rattle.source.specs.Answers.{fileRead}
 use Rattle.machine.specs.declared.Machine.{Machine}
-use Rattle.certify.specs.declared.Certified.{Certified}
-use Rattle.certify.specs.Answers.{certification}
-use Rattle.step.specs.declared.Stepped.{Stepped}
-use Rattle.step.specs.Step.{Step, step}
-use Rattle.step.specs.Answers.{stepped}
-use Rattle.replay.specs.declared.Replayed.{Replayed}
-use Rattle.replay.specs.Answers.{replay}
 use Rattle.search.specs.declared.Answer.{Answer}
 use Rattle.search.specs.Answers.{Searched}
 use Rattle.values.specs.Lists.{put}
 use Rattle.program_value.specs.Value.{programOf}
 use Rattle.machine_value.specs.Value.{machineOf}
-use Rattle.capi.specs.Answers.{readBytes, steppedBytes, certifiedBytes, replayedBytes, searchedBytes}
-use Rattle.capi.specs.Calls.{Called, called, answered, onArea, onValue, readCall, stepCall, certifyCall, replayCall, SearchCalled, searchCalled, searchCall}
+use Rattle.answers_value.specs.Value.{searchedBytes}
+use Rattle.capi.specs.Calls.{Called, called, answered, onArea, onValue, SearchCalled, searchCalled, searchCall}
 
 -- ---- an area that is too short, and one with room
 pub short : (n : ℕ) (a : List ℕ) (on : Called) → length a < n → called 1 a ≡ onArea n a on
@@ -40,18 +30,29 @@ other n v a on h = rw (ne-eqb _ _ h)
 fits : (n : ℕ) (v a : List ℕ) (on : Called) → length v ≡ n → on ≡ onValue n v a on
 fits n v a on h = rw (eq-eqb _ _ h)
 
--- ---- bytes at the start of the area, and what stood behind them
-wrote : (bs a a' : List ℕ) → a' ≡ put 0 bs a → called 0 a' ≡ answered bs a
-unfolding put
-wrote bs a a' e = ap (called 0) (e ∙ ap (λ (n : ℕ). bs ++ drop n a) (zero-add (length bs)))
+-- ---- two values first
+module _ (n : ℕ) (p x a : List ℕ) (on : Called) (h : n ≤ length a) where
+  pub other-program : (length p ≡ 487 → ⊥) → called 2 a ≡ onArea n a (onValue 487 p a (onValue 341 x a on))
+  other-program l = other 487 p a _ l ∙ room n a _ h
 
-pub read-answered : (f a a' : List ℕ) (r : FileRead) → 495 ≤ length a → r ≡ fileRead (readFile f) → a' ≡ put 0 (readBytes r) a → called 0 a' ≡ readCall f a
-unfolding readCall
-read-answered f a a' r h e w = wrote (readBytes r) a a' w ∙ ap (λ (x : FileRead). answered (readBytes x) a) e ∙ room 495 a _ h
+  pub other-machine : length p ≡ 487 → (length x ≡ 341 → ⊥) → called 2 a ≡ onArea n a (onValue 487 p a (onValue 341 x a on))
+  other-machine l m = other 341 x a on m ∙ fits 487 p a _ l ∙ room n a _ h
 
-pub replay-answered : (f t a a' : List ℕ) (r : Replayed) → 357 ≤ length a → r ≡ replay f t → a' ≡ put 0 (replayedBytes r) a → called 0 a' ≡ replayCall f t a
-unfolding replayCall
-replay-answered f t a a' r h e w = wrote (replayedBytes r) a a' w ∙ ap (λ (x : Replayed). answered (replayedBytes x) a) e ∙ room 357 a _ h
+  both-fit : length p ≡ 487 → length x ≡ 341 → on ≡ onArea n a (onValue 487 p a (onValue 341 x a on))
+  both-fit l m = fits 341 x a on m ∙ fits 487 p a _ l ∙ room n a _ h
+
+-- ---- whatever is answered, written at the start of an area of n bytes or more
+module _ {R : Type 0} (n : ℕ) (bytes : R → List ℕ) (a a' : List ℕ) (r : R) (h : n ≤ length a) (w : a' ≡ put 0 (bytes r) a) where
+  wrote : (x : R) → r ≡ x → called 0 a' ≡ answered (bytes x) a
+  unfolding put
+  wrote x e = ap (called 0) (w ∙ ap (λ (k : ℕ). bytes r ++ drop k a) (zero-add (length (bytes r)))) ∙ ap (λ (z : R). answered (bytes z) a) e
+
+  pub answer-of-file : (x : R) → r ≡ x → called 0 a' ≡ onArea n a (answered (bytes x) a)
+  answer-of-file x e = wrote x e ∙ room n a _ h
+
+  pub answer-of-values : {K : Type 0} (f : Program → Machine → K → R) (k : K) (p x : List ℕ) (q : Program) (y : Machine) → length p ≡ 487 → length x ≡ 341 → q ≡ programOf p → y ≡ machineOf x → r ≡ f q y k
+      → called 0 a' ≡ onArea n a (onValue 487 p a (onValue 341 x a (answered (bytes (f (programOf p) (machineOf x) k)) a)))
+  answer-of-values f k p x q y l m ep ex e = wrote _ (e ∙ ap₂ (λ (q : Program) (y : Machine). f q y k) ep ex) ∙ both-fit n p x a _ h l m
 
 -- ---- the search, which is lent a trace area besides
 pub search-short : (f : List ℕ) (b : ℕ) (t a : List ℕ) → length a < 12 → searchCalled 1 a t ≡ searchCall f b t a
@@ -64,29 +65,4 @@ both t c = record { call = c; trace = t }
 
 pub search-answered : (f : List ℕ) (b : ℕ) (t t' a a' : List ℕ) (r : Answer) → 12 ≤ length a → Searched f b t r t' → a' ≡ put 0 (searchedBytes r) a → searchCalled 0 a' t' ≡ searchCall f b t a
 unfolding searchCall both
-search-answered f b t t' a a' r h s w =
-    ap₂ both
-    (s .lent ∙ rw (le-ltb _ _ h))
-    (wrote (searchedBytes r) a a' w ∙ ap (λ (x : Answer). answered (searchedBytes x) a) (s .answer) ∙ room 12 a _ h)
-
--- ---- two values first
-module _ (n : ℕ) (p x a : List ℕ) (on : Called) (h : n ≤ length a) where
-  pub other-program : (length p ≡ 487 → ⊥) → called 2 a ≡ onArea n a (onValue 487 p a (onValue 341 x a on))
-  other-program l = other 487 p a _ l ∙ room n a _ h
-
-  pub other-machine : length p ≡ 487 → (length x ≡ 341 → ⊥) → called 2 a ≡ onArea n a (onValue 487 p a (onValue 341 x a on))
-  other-machine l m = other 341 x a on m ∙ fits 487 p a _ l ∙ room n a _ h
-
-  pub both-fit : length p ≡ 487 → length x ≡ 341 → on ≡ onArea n a (onValue 487 p a (onValue 341 x a on))
-  both-fit l m = fits 341 x a on m ∙ fits 487 p a _ l ∙ room n a _ h
-
-module _ (p x a a' : List ℕ) (q : Program) (y : Machine) (l : length p ≡ 487) (m : length x ≡ 341) (ep : q ≡ programOf p) (ex : y ≡ machineOf x) where
-  pub step-answered : (k : Step) (r : Stepped) → 342 ≤ length a → r ≡ stepped y (step q y k) → a' ≡ put 0 (steppedBytes r) a → called 0 a' ≡ stepCall p x k a
-  unfolding stepCall
-  step-answered k r h e w =
-      wrote (steppedBytes r) a a' w ∙ ap (λ (z : Stepped). answered (steppedBytes z) a) (rw (ep, ex) at e) ∙ both-fit 342 p x a _ h l m
-
-  pub certify-answered : (i : ℕ) (r : Certified) → 2 ≤ length a → r ≡ certification q y i → a' ≡ put 0 (certifiedBytes r) a → called 0 a' ≡ certifyCall p x i a
-  unfolding certifyCall
-  certify-answered i r h e w =
-      wrote (certifiedBytes r) a a' w ∙ ap (λ (z : Certified). answered (certifiedBytes z) a) (rw (ep, ex) at e) ∙ both-fit 2 p x a _ h l m
+search-answered f b t t' a a' r h s w = ap₂ both (s .lent ∙ rw (le-ltb _ _ h)) (answer-of-file 12 searchedBytes a a' r h w _ (s .answer))

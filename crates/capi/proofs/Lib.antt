@@ -1,3 +1,2 @@
 pub mod Called
 pub mod Coincide
-pub mod Lengths

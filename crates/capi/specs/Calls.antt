@@ -14,7 +14,7 @@ use Rattle.replay.specs.Answers.{replay}
 use Rattle.search.specs.Answers.{answerOn, areaOn}
 use Rattle.program_value.specs.Value.{programOf}
 use Rattle.machine_value.specs.Value.{machineOf}
-use Rattle.capi.specs.Answers.{readBytes, steppedBytes, certifiedBytes, replayedBytes, searchedBytes}
+use Rattle.answers_value.specs.Value.{readBytes, steppedBytes, certifiedBytes, replayedBytes, searchedBytes}
 
 -- the number that a call returns, and the area after it
 pub record Called : Type 0 where

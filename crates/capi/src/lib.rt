@@ -1,19 +1,17 @@
 // The public calls on byte slices, for programs in C and Rust. Nothing is required of a caller. Each call returns 0; 1 where the
 // answer area is shorter than the answer; 2 where a program or machine value has another length than stated. On 1 and 2 nothing
 // is written; otherwise exactly the answer's bytes, and by the search the trace that it found.
-mod put;
-
 ghost use mathlib.Core.Path.{_≡_};
 ghost use Rattle.capi.specs.Calls.{called, readCall, stepCall, certifyCall, replayCall, searchCalled, searchCall};
+use answers_value::put_certified;
+use answers_value::put_read;
+use answers_value::put_replayed;
+use answers_value::put_searched;
+use answers_value::put_stepped;
 use certify::certify;
 use machine_value::machine_of;
 use program::read;
 use program_value::program_of;
-use put::put_certified;
-use put::put_read;
-use put::put_replayed;
-use put::put_searched;
-use put::put_stepped;
 use replay::replay;
 use search::search;
 use step::TraceStep;

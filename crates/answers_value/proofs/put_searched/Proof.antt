@@ -1,11 +1,11 @@
--- `capi::put::put_searched` meets its contract: part after part.
+-- `answers_value::put_searched` meets its contract: part after part.
 -- Assumes nothing.
 use native.Mathlib.Omega.{arith}
 use borrow.Author.Needs.{needs}
-use Rattle.capi.specs.Answers.{searchedBytes}
+use Rattle.answers_value.specs.Value.{searchedBytes}
 use Rattle.values.proofs.Putting.{put-then}
-use Rattle.capi.proofs.put.put_searched.Statement.{statement}
-use Rattle.capi.proofs.put.put_searched.Tie as tie
+use Rattle.answers_value.proofs.put_searched.Statement.{statement}
+use Rattle.answers_value.proofs.put_searched.Tie as tie
 
 returns : tie.Need-returns
 unfolding searchedBytes

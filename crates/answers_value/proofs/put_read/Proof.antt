@@ -1,11 +1,11 @@
--- `capi::put::put_read` meets its contract: part after part.
+-- `answers_value::put_read` meets its contract: part after part.
 -- Assumes nothing.
 use native.Mathlib.Omega.{arith}
 use borrow.Author.Needs.{needs}
-use Rattle.capi.specs.Answers.{readBytes}
+use Rattle.answers_value.specs.Value.{readBytes}
 use Rattle.values.proofs.Putting.{put-then}
-use Rattle.capi.proofs.put.put_read.Statement.{statement}
-use Rattle.capi.proofs.put.put_read.Tie as tie
+use Rattle.answers_value.proofs.put_read.Statement.{statement}
+use Rattle.answers_value.proofs.put_read.Tie as tie
 
 returns : tie.Need-returns
 unfolding readBytes

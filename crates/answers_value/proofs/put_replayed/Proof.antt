@@ -1,11 +1,11 @@
--- `capi::put::put_replayed` meets its contract: part after part.
+-- `answers_value::put_replayed` meets its contract: part after part.
 -- Assumes nothing.
 use native.Mathlib.Omega.{arith}
 use borrow.Author.Needs.{needs}
-use Rattle.capi.specs.Answers.{replayedBytes}
+use Rattle.answers_value.specs.Value.{replayedBytes}
 use Rattle.values.proofs.Putting.{put-then}
-use Rattle.capi.proofs.put.put_replayed.Statement.{statement}
-use Rattle.capi.proofs.put.put_replayed.Tie as tie
+use Rattle.answers_value.proofs.put_replayed.Statement.{statement}
+use Rattle.answers_value.proofs.put_replayed.Tie as tie
 
 returns : tie.Need-returns
 unfolding replayedBytes

@@ -9,7 +9,7 @@ use Rattle.replay.specs.declared.Replayed.{Replayed}
 use Rattle.search.specs.declared.Answer.{Answer}
 use Rattle.program_value.proofs.Lengths.{program-length}
 use Rattle.machine_value.proofs.Lengths.{machine-length}
-use Rattle.capi.specs.Answers.{readBytes, steppedBytes, replayedBytes, searchedBytes}
+use Rattle.answers_value.specs.Value.{readBytes, steppedBytes, replayedBytes, searchedBytes}
 
 pub read-length : (r : FileRead) → length (readBytes r) ≡ 495
 unfolding readBytes

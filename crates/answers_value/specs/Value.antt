@@ -3,33 +3,19 @@
 use mathlib.Core.Bool.{cond}
 use mathlib.Core.List.{List, [], _∷_, _++_}
 use Prim.Native.Nat.{ℕ}
-use Rattle.source.specs.declared.ReadAnswer.{ReadAnswer}
-use Rattle.source.specs.declared.ReadAnswer.the-variants.{Good, Refused}
 use Rattle.source.specs.declared.FileRead.{FileRead}
 use Rattle.certify.specs.declared.Certified.{Certified}
-use Rattle.certify.specs.declared.Certified.the-variants.{Yes, No, Refused as CertifyRefused}
 use Rattle.certify.specs.Answers.{refusalOf as certifyRefusal}
 use Rattle.step.specs.declared.Stepped.{Stepped}
 use Rattle.step.specs.Answers.{refusalOf as stepRefusal}
-use Rattle.replay.specs.declared.ReplayAnswer.{ReplayAnswer}
-use Rattle.replay.specs.declared.ReplayAnswer.the-variants.{Good as ReplayGood, ProgramRefused, TraceRefused}
 use Rattle.replay.specs.declared.Replayed.{Replayed}
-use Rattle.search.specs.declared.Verdict.{Verdict}
-use Rattle.search.specs.declared.Verdict.the-variants.{Allowed, Forbidden, NotFinished, Refused as SearchRefused}
 use Rattle.search.specs.declared.Answer.{Answer}
 use Rattle.values.specs.Numbers.{word32}
+use Rattle.answer_numbers.specs.Cases.{readRefusal, readPlace, certifiedByte, replayRefusal, replayFile, replayIndex, replayPlace, verdictByte, searchRefusal, searchPlace}
 use Rattle.program_value.specs.Value.{programBytes}
 use Rattle.machine_value.specs.Value.{machineBytes}
 
 -- ---- read: refusal (0 none), 3 zero bytes, place u32, the program value; 495 bytes
-abbrev pub readRefusal : ReadAnswer → ℕ
-readRefusal Good = 0
-readRefusal (Refused n place) = n
-
-abbrev pub readPlace : ReadAnswer → ℕ
-readPlace Good = 0
-readPlace (Refused n place) = place
-
 unfoldable pub readBytes : FileRead → List ℕ
 readBytes r = (readRefusal (r .answer) ∷ 0 ∷ 0 ∷ 0 ∷ []) ++ (word32 (readPlace (r .answer)) ++ programBytes (r .program))
 
@@ -38,35 +24,10 @@ unfoldable pub steppedBytes : Stepped → List ℕ
 steppedBytes r = (stepRefusal (r .answer) ∷ []) ++ machineBytes (r .machine)
 
 -- ---- certify: refusal, certified (0 or 1); 2 bytes
-abbrev pub certifiedByte : Certified → ℕ
-certifiedByte Yes = 1
-certifiedByte No = 0
-certifiedByte (CertifyRefused n) = 0
-
 abbrev pub certifiedBytes : Certified → List ℕ
 certifiedBytes r = certifyRefusal r ∷ certifiedByte r ∷ []
 
 -- ---- replay: refusal, the file it is in (0 none, 1 program, 2 trace), complete, holds, steps u32, index u32, place u32, the machine value; 357 bytes
-abbrev pub replayRefusal : ReplayAnswer → ℕ
-replayRefusal ReplayGood = 0
-replayRefusal (ProgramRefused n place) = n
-replayRefusal (TraceRefused n index place) = n
-
-abbrev pub replayFile : ReplayAnswer → ℕ
-replayFile ReplayGood = 0
-replayFile (ProgramRefused n place) = 1
-replayFile (TraceRefused n index place) = 2
-
-abbrev pub replayIndex : ReplayAnswer → ℕ
-replayIndex ReplayGood = 0
-replayIndex (ProgramRefused n place) = 0
-replayIndex (TraceRefused n index place) = index
-
-abbrev pub replayPlace : ReplayAnswer → ℕ
-replayPlace ReplayGood = 0
-replayPlace (ProgramRefused n place) = place
-replayPlace (TraceRefused n index place) = place
-
 unfoldable pub replayedBytes : Replayed → List ℕ
 replayedBytes r =
     (replayRefusal (r .answer) ∷ replayFile (r .answer) ∷ cond (r .complete) 1 0 ∷ cond (r .holds) 1 0 ∷ [])
@@ -76,24 +37,6 @@ replayedBytes r =
     ++ machineBytes (r .machine))))
 
 -- ---- search: verdict (0 refused, 1 allowed, 2 forbidden, 3 not finished), refusal, steps, 0, place u32, count u32; 12 bytes
-abbrev pub verdictByte : Verdict → ℕ
-verdictByte (SearchRefused n place) = 0
-verdictByte Allowed = 1
-verdictByte Forbidden = 2
-verdictByte NotFinished = 3
-
-abbrev pub searchRefusal : Verdict → ℕ
-searchRefusal (SearchRefused n place) = n
-searchRefusal Allowed = 0
-searchRefusal Forbidden = 0
-searchRefusal NotFinished = 0
-
-abbrev pub searchPlace : Verdict → ℕ
-searchPlace (SearchRefused n place) = place
-searchPlace Allowed = 0
-searchPlace Forbidden = 0
-searchPlace NotFinished = 0
-
 unfoldable pub searchedBytes : Answer → List ℕ
 searchedBytes r =
     (verdictByte (r .verdict) ∷ searchRefusal (r .verdict) ∷ r .steps ∷ 0 ∷ [])

@@ -1,11 +1,11 @@
--- `capi::put::put_stepped` meets its contract: the refusal, then the machine.
+-- `answers_value::put_stepped` meets its contract: the refusal, then the machine.
 -- Assumes nothing.
 use native.Mathlib.Omega.{arith}
 use borrow.Author.Needs.{needs}
-use Rattle.capi.specs.Answers.{steppedBytes}
+use Rattle.answers_value.specs.Value.{steppedBytes}
 use Rattle.values.proofs.Putting.{put-then}
-use Rattle.capi.proofs.put.put_stepped.Statement.{statement}
-use Rattle.capi.proofs.put.put_stepped.Tie as tie
+use Rattle.answers_value.proofs.put_stepped.Statement.{statement}
+use Rattle.answers_value.proofs.put_stepped.Tie as tie
 
 returns : tie.Need-returns
 unfolding steppedBytes

@@ -1,8 +1,8 @@
--- `capi::put::put_certified` meets its contract: two bytes.
+-- `answers_value::put_certified` meets its contract: two bytes.
 -- Assumes nothing.
 use borrow.Author.Needs.{needs}
-use Rattle.capi.proofs.put.put_certified.Statement.{statement}
-use Rattle.capi.proofs.put.put_certified.Tie as tie
+use Rattle.answers_value.proofs.put_certified.Statement.{statement}
+use Rattle.answers_value.proofs.put_certified.Tie as tie
 
 returns : tie.Need-returns
 returns c =

@@ -1,0 +1,66 @@
+-- The numbers that the cases of each answer stand for; 0 where a case has none.
+-- Assumes nothing.
+use Prim.Native.Nat.{ℕ}
+use Rattle.source.specs.declared.ReadAnswer.{ReadAnswer}
+use Rattle.source.specs.declared.ReadAnswer.the-variants.{Good, Refused}
+use Rattle.certify.specs.declared.Certified.{Certified}
+use Rattle.certify.specs.declared.Certified.the-variants.{Yes, No, Refused as CertifyRefused}
+use Rattle.replay.specs.declared.ReplayAnswer.{ReplayAnswer}
+use Rattle.replay.specs.declared.ReplayAnswer.the-variants.{Good as ReplayGood, ProgramRefused, TraceRefused}
+use Rattle.search.specs.declared.Verdict.{Verdict}
+use Rattle.search.specs.declared.Verdict.the-variants.{Allowed, Forbidden, NotFinished, Refused as SearchRefused}
+
+-- ---- read
+abbrev pub readRefusal : ReadAnswer → ℕ
+readRefusal Good = 0
+readRefusal (Refused n place) = n
+
+abbrev pub readPlace : ReadAnswer → ℕ
+readPlace Good = 0
+readPlace (Refused n place) = place
+
+-- ---- certify
+abbrev pub certifiedByte : Certified → ℕ
+certifiedByte Yes = 1
+certifiedByte No = 0
+certifiedByte (CertifyRefused n) = 0
+
+-- ---- replay
+abbrev pub replayRefusal : ReplayAnswer → ℕ
+replayRefusal ReplayGood = 0
+replayRefusal (ProgramRefused n place) = n
+replayRefusal (TraceRefused n index place) = n
+
+abbrev pub replayFile : ReplayAnswer → ℕ
+replayFile ReplayGood = 0
+replayFile (ProgramRefused n place) = 1
+replayFile (TraceRefused n index place) = 2
+
+abbrev pub replayIndex : ReplayAnswer → ℕ
+replayIndex ReplayGood = 0
+replayIndex (ProgramRefused n place) = 0
+replayIndex (TraceRefused n index place) = index
+
+abbrev pub replayPlace : ReplayAnswer → ℕ
+replayPlace ReplayGood = 0
+replayPlace (ProgramRefused n place) = place
+replayPlace (TraceRefused n index place) = place
+
+-- ---- search
+abbrev pub verdictByte : Verdict → ℕ
+verdictByte (SearchRefused n place) = 0
+verdictByte Allowed = 1
+verdictByte Forbidden = 2
+verdictByte NotFinished = 3
+
+abbrev pub searchRefusal : Verdict → ℕ
+searchRefusal (SearchRefused n place) = n
+searchRefusal Allowed = 0
+searchRefusal Forbidden = 0
+searchRefusal NotFinished = 0
+
+abbrev pub searchPlace : Verdict → ℕ
+searchPlace (SearchRefused n place) = place
+searchPlace Allowed = 0
+searchPlace Forbidden = 0
+searchPlace NotFinished = 0
