@@ -9,6 +9,8 @@ ghost use Rattle.machine.specs.WellFormed.{Formed};
 ghost use Rattle.step.specs.Answers.{refusalOf};
 ghost use Rattle.replay.specs.Replay.{ended, broken, replayFrom};
 ghost use Rattle.replay.specs.Answers.{answered, onProgram, refusedWith, replay, stepAt};
+use ending::asked;
+use ending::complete;
 use machine::Machine;
 use machine::machines::fresh;
 use program::ReadAnswer;
@@ -16,8 +18,6 @@ use program::read;
 use source::Program;
 use step::StepAnswer;
 use step::TraceStep;
-use step::outcome::asked;
-use step::outcome::complete;
 use step::rule_step;
 
 // Which file a refusal is in, its number, in the trace the record's index from 0, and the place.

@@ -4,6 +4,5 @@ pub mod Room
 pub mod OwnPromise
 pub mod Kept
 pub mod Stepping
-pub mod Ending
 pub mod Answered
 pub mod InTime

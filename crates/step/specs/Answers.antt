@@ -1,16 +1,12 @@
--- The answer of a step for the code: taken, or the refusal number, beside the machine; the answer of a step of one thread; a question in parts.
+-- The answer of a step for the code: taken, or the refusal number, beside the machine; and the answer of a step of one thread.
 -- Assumes nothing.
 use mathlib.Core.Path.{_≡_}
-use mathlib.Core.Bool.{Bool}
-use mathlib.Core.List.{List}
 use mathlib.Core.Logic.{_⊎_}
-use Prim.Native.Nat.{ℕ, zero, suc, _≤_, _<_}
-use lib.ListN.{getD, set}
-use Rattle.source.specs.Tests.{below}
-use Rattle.source.specs.Program.{noCondition, codeOf}
+use Prim.Native.Nat.{ℕ, zero, suc, _<_}
+use lib.ListN.{set}
+use Rattle.source.specs.Program.{codeOf}
 use Rattle.machine.specs.State.{threadOf, append}
-use Rattle.step.specs.Below.{Code, Condition, Program, Message, Memory, Thread, Machine}
-use Rattle.step.specs.Outcome.{holds}
+use Rattle.step.specs.Below.{Code, Program, Message, Memory, Thread, Machine}
 use Rattle.step.specs.Step.{Step, Outcome, rejected, accepted, settle, executeStep, promiseStep, kindStep}
 pub use Rattle.step.specs.declared.StepAnswer.{StepAnswer}
 pub use Rattle.step.specs.declared.StepAnswer.the-variants.{Taken, Refused}
@@ -68,18 +64,3 @@ Promises c i m s l v r =
 
 abbrev pub Moves : Code → Memory → Thread → Step → Moved → Type 0
 Moves c m s k r = (p : Program) (x : Machine) → Here c m s p x (k .thread) → kindStep p x k (k .kind) ≡ outcome x (k .thread) (memoryAfter m k (k .kind)) r
-
--- ---- the question
--- r is whether the condition holds, in every machine with that memory and the thread that it names
-abbrev pub Holds : Memory → Thread → Condition → Bool → Type 0
-Holds m s q r = (x : Machine) → x .memory ≡ m → threadOf x (q .thread) ≡ s → r ≡ holds x q
-
--- the first n conditions hold
-abbrev pub allHold : List Condition → Machine → ℕ → Bool
-allHold question x n = below (λ k. holds x (getD question k noCondition)) n
-
--- what is asked before that: as many conditions as fit, of threads that are there
-pub record Askable (n : ℕ) (question : List Condition) (x : Machine) : Type 0 where
-  pub few : n ≤ 8
-  pub room : x .memory .count ≤ 16
-  pub thread-there : (k : ℕ) → k < n → (getD question k noCondition) .thread < 4

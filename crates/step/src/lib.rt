@@ -1,6 +1,5 @@
 // One step of the machine: refused with a number and the machine as it came in, or taken with the next machine.
 mod checked;
-pub mod outcome;
 
 pub use checked::step;
 ghost use mathlib.Core.Path.{_≡_};

@@ -1,7 +1,7 @@
--- `step::outcome::complete` meets its contract.
+-- `ending::complete` meets its contract.
 -- Assumes nothing.
-use Rattle.step.proofs.Ending.{thread-done, all-four}
+use Rattle.ending.proofs.Asking.{thread-done, all-four}
 use Rattle.step.specs.Outcome.{complete}
 use Rattle.certify.proofs.Asked.{program-facts}
 use Rattle.machine.specs.State.{threadOf}
 use Rattle.source.proofs.Arrays.{length-mapped, getD-any}
@@ -12,8 +12,8 @@ use native.Mathlib.Omega.{arith}
 use mathlib.Core.Bool.{_&&_}
 use mathlib.Core.Path.{_≡_, _∙_}
 use borrow.Author.Needs.{needs}
-use Rattle.step.proofs.outcome.complete.Statement.{statement}
-use Rattle.step.proofs.outcome.complete.Tie as tie
+use Rattle.ending.proofs.complete.Statement.{statement}
+use Rattle.ending.proofs.complete.Tie as tie
 
 -- src/outcome.rt:28:35
 element-copy-out-thread-done : tie.Need-element-copy-out-thread-done

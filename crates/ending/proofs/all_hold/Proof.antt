@@ -1,4 +1,4 @@
--- `step::outcome::all_hold` meets its contract: the loop has come to condition k, and those before it hold.
+-- `ending::all_hold` meets its contract: the loop has come to condition k, and those before it hold.
 -- Assumes nothing.
 use mathlib.Core.Path.{_≡_, refl}
 use Prim.Native.Nat.{_-_}
@@ -6,9 +6,9 @@ use native.Mathlib.Omega.{arith}
 use lib.ListN.{length}
 use borrow.Author.Needs.{needs}
 use Rattle.source.proofs.Arrays.{length-mapped, getD-any}
-use Rattle.step.proofs.Ending.{Holding, holding-none, holding-more, holding-all, holding-fails}
-use Rattle.step.proofs.outcome.all_hold.Statement.{statement}
-use Rattle.step.proofs.outcome.all_hold.Tie as tie
+use Rattle.ending.proofs.Asking.{Holding, holding-none, holding-more, holding-all, holding-fails}
+use Rattle.ending.proofs.all_hold.Statement.{statement}
+use Rattle.ending.proofs.all_hold.Tie as tie
 
 abbrev Inv-loop : tie.InvT-loop
 Inv-loop n question x k₀ k = Holding question x n k

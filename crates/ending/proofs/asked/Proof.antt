@@ -1,10 +1,10 @@
--- `step::outcome::asked` meets its contract: a machine that is not complete decides.
+-- `ending::asked` meets its contract: a machine that is not complete decides.
 -- Assumes nothing.
 use mathlib.Core.Path.{sym, _∙_}
 use borrow.Author.Needs.{needs}
 use Rattle.step.specs.Outcome.{asked}
-use Rattle.step.proofs.outcome.asked.Statement.{statement}
-use Rattle.step.proofs.outcome.asked.Tie as tie
+use Rattle.ending.proofs.asked.Statement.{statement}
+use Rattle.ending.proofs.asked.Tie as tie
 
 returns : tie.Need-returns
 unfolding asked

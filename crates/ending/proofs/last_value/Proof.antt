@@ -1,9 +1,9 @@
--- `step::outcome::last_value` meets its contract: no message after time t is at l.
+-- `ending::last_value` meets its contract: no message after time t is at l.
 -- Assumes nothing.
 use native.Mathlib.Omega.{arith}
-use Rattle.step.proofs.Ending.{Older, older-all, older-hit, older-more, older-none}
-use Rattle.step.proofs.outcome.last_value.Statement.{statement}
-use Rattle.step.proofs.outcome.last_value.Tie as tie
+use Rattle.ending.proofs.Asking.{Older, older-all, older-hit, older-more, older-none}
+use Rattle.ending.proofs.last_value.Statement.{statement}
+use Rattle.ending.proofs.last_value.Tie as tie
 
 abbrev Inv-loop : tie.InvT-loop
 Inv-loop m l t₀ t = Older m l t

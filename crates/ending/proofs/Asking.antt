@@ -17,9 +17,16 @@ use Rattle.source.proofs.Shape.{program-iff}
 use Rattle.machine.specs.State.{freshRegister, threadOf, messageAt}
 use Rattle.machine.specs.WellFormed.{Formed}
 use Rattle.certify.proofs.Asked.{machine-facts}
-use Rattle.step.specs.Below.{Code, Condition, Program, Message, Memory, Register, Thread, Machine}
+use Rattle.source.specs.declared.Code.{Code}
+use Rattle.source.specs.declared.Condition.{Condition}
+use Rattle.source.specs.declared.Program.{Program}
+use Rattle.machine.specs.declared.Message.{Message}
+use Rattle.machine.specs.declared.Memory.{Memory}
+use Rattle.machine.specs.declared.Register.{Register}
+use Rattle.machine.specs.declared.Thread.{Thread}
+use Rattle.machine.specs.declared.Machine.{Machine}
 use Rattle.step.specs.Outcome.{lastOf, lastValue, holds}
-use Rattle.step.specs.Answers.{Holds, allHold, Askable}
+use Rattle.ending.specs.Conditions.{Holds, allHold, Askable}
 
 and-true : (b : Bool) → (b && true) ≡ b
 and-true true = refl

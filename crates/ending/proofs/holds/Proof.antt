@@ -1,9 +1,9 @@
--- `step::outcome::holds` meets its contract: by the kind.
+-- `ending::holds` meets its contract: by the kind.
 -- Assumes nothing.
 use borrow.Author.Needs.{needs}
-use Rattle.step.proofs.Ending.{holds-register, holds-last}
-use Rattle.step.proofs.outcome.holds.Statement.{statement}
-use Rattle.step.proofs.outcome.holds.Tie as tie
+use Rattle.ending.proofs.Asking.{holds-register, holds-last}
+use Rattle.ending.proofs.holds.Statement.{statement}
+use Rattle.ending.proofs.holds.Tie as tie
 
 returns : tie.Need-returns
 returns c = let b = c .before .before in holds-register _ _ _ _ (b .before .if1 .taken) (b .register-at .ensures)

@@ -1,9 +1,9 @@
--- `step::outcome::question_holds` meets its contract.
+-- `ending::question_holds` meets its contract.
 -- Assumes nothing.
 use Rattle.step.specs.Outcome.{questionHolds}
-use Rattle.step.proofs.Ending.{askable}
-use Rattle.step.proofs.outcome.question_holds.Statement.{statement}
-use Rattle.step.proofs.outcome.question_holds.Tie as tie
+use Rattle.ending.proofs.Asking.{askable}
+use Rattle.ending.proofs.question_holds.Statement.{statement}
+use Rattle.ending.proofs.question_holds.Tie as tie
 
 all-hold-requires : tie.Need-all-hold-requires
 all-hold-requires c κs = askable _ _ (c .before .pre)
