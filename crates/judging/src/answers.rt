@@ -1,6 +1,7 @@
 // An answer printed as document 01 says: the verdict, the count, and a line for each step of the trace; or the refusal.
 ghost use Prim.Native.Nat.{_*_, _≤_};
 ghost use lib.ListN.{length};
+use rows::byte;
 use rows::count;
 use rows::number;
 use rows::text;
@@ -10,27 +11,32 @@ use search::Verdict;
 fn verdict(name: &[u8], n: u32) {
     text(b"verdict ");
     text(name);
-    count(b"\ncount ", n as usize);
-    text(b"\n");
+    text(b"\ncount");
+    count(b' ', n as usize);
+    byte(b'\n');
 }
 
 fn refused(refusal: u8, place: usize) {
-    number(b"refused ", refusal);
-    count(b" at ", place);
-    text(b"\n");
+    text(b"refused");
+    number(b' ', refusal);
+    text(b" at");
+    count(b' ', place);
+    byte(b'\n');
 }
 
 // Promise: thread, location, value. Execute: thread, time.
 fn step(kind: u8, thread: u8, a: u8, b: u8) {
     if kind == 1 {
-        number(b"promise ", thread);
-        number(b" ", a);
-        number(b" ", b);
+        text(b"promise");
+        number(b' ', thread);
+        number(b' ', a);
+        number(b' ', b);
     } else {
-        number(b"execute ", thread);
-        number(b" ", a);
+        text(b"execute");
+        number(b' ', thread);
+        number(b' ', a);
     }
-    text(b"\n");
+    byte(b'\n');
 }
 
 // The first n steps of the trace, six bytes each: the mark, kind, thread, a and b.

@@ -1,12 +1,12 @@
-// One test on a line: its name, the budget, the published verdict and the program file in hexadecimal digits, a space between.
-use crate::hex::Decoded;
-use crate::hex::decode;
-ghost use Prim.Native.Nat.{_≤_};
-ghost use lib.ListN.{length};
+// One test on a line: its name, the budget, the published verdict and the bytes of the program file, a space between.
 use check::same;
 use judging::argument::Budget;
 use judging::argument::budget_of;
 use rows::count;
+use rows::file::File;
+use rows::file::add;
+use rows::file::none;
+use rows::file::readable;
 use rows::find;
 use rows::number;
 use rows::text;
@@ -20,9 +20,8 @@ pub enum Came {
     Unread,
 }
 
-pub fn unread(name: &[u8]) -> Came {
-    text(name);
-    text(b" cannot be read\n");
+fn unread(name: &[u8]) -> Came {
+    rows::unread(name);
     Came::Unread
 }
 
@@ -45,20 +44,23 @@ fn beside(published: &[u8], verdict: &[u8]) -> Came {
 fn found(published: &[u8], verdict: &[u8], n: u32) -> Came {
     text(b" ");
     text(verdict);
-    count(b" ", n as usize);
+    count(b' ', n as usize);
     beside(published, verdict)
 }
 
 fn refused(published: &[u8], refusal: u8, place: usize) -> Came {
-    number(b" refused ", refusal);
-    count(b" at ", place);
+    text(b" refused");
+    number(b' ', refusal);
+    text(b" at");
+    count(b' ', place);
     beside(published, b"refused")
 }
 
 // The file is the first n bytes.
-fn judged(name: &[u8], budget: u32, published: &[u8], file: &[u8], n: usize) -> Came
-    requires { ⌜ n ≤ length (now file) ⌝ }
-{
+fn judged(name: &[u8], budget: u32, published: &[u8], file: &[u8], n: usize) -> Came {
+    if file.len() < n {
+        return unread(name);
+    }
     text(name);
     let mut area = [0u8; 480];
     let a = search::search(&file[0..n], budget, &mut area);
@@ -71,33 +73,39 @@ fn judged(name: &[u8], budget: u32, published: &[u8], file: &[u8], n: usize) -> 
     }
 }
 
-fn in_digits(name: &[u8], budget: u32, published: &[u8], digits: &[u8]) -> Came {
-    let mut file = io::buffer();
-    match decode(digits, &mut file) {
-        Decoded::Bytes(n) => judged(name, budget, published, &file, n),
-        Decoded::Bad => unread(name),
+fn with_file(name: &[u8], budget: u32, published: &[u8], f: File) -> Came {
+    if readable(f) {
+        let b = f.bytes;
+        return judged(name, budget, published, &b, f.len);
     }
+    unread(name)
 }
 
-fn parts(name: &[u8], budget: &[u8], published: &[u8], digits: &[u8]) -> Came {
-    match budget_of(budget) {
-        Budget::Given(b) => in_digits(name, b, published, digits),
+// The line from the published verdict on.
+fn with_budget(name: &[u8], budget: u32, s: &[u8]) -> Came {
+    let space = find(s, 0, b' ');
+    if space == s.len() {
+        return unread(name);
+    }
+    with_file(name, budget, &s[0..space], add(none(), &s[space..s.len()]))
+}
+
+// The line from the budget on.
+fn named(name: &[u8], s: &[u8]) -> Came {
+    let space = find(s, 0, b' ');
+    if space == s.len() {
+        return unread(name);
+    }
+    match budget_of(&s[0..space]) {
+        Budget::Given(b) => with_budget(name, b, &s[space + 1..s.len()]),
         Budget::Bad => unread(name),
     }
 }
 
 pub fn line(s: &[u8]) -> Came {
-    let a = find(s, 0, b' ');
-    if a == s.len() {
-        return unread(&s[0..a]);
+    let space = find(s, 0, b' ');
+    if space == s.len() {
+        return unread(s);
     }
-    let b = find(s, a + 1, b' ');
-    if b == s.len() {
-        return unread(&s[0..a]);
-    }
-    let c = find(s, b + 1, b' ');
-    if c == s.len() {
-        return unread(&s[0..a]);
-    }
-    parts(&s[0..a], &s[a + 1..b], &s[b + 1..c], &s[c + 1..s.len()])
+    named(&s[0..space], &s[space + 1..s.len()])
 }

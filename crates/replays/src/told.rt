@@ -7,9 +7,9 @@ use rows::text;
 
 fn answer(file: &[u8], refusal: u8, index: usize, place: usize) {
     text(file);
-    number(b" ", refusal);
-    count(b" ", index);
-    count(b" ", place);
+    number(b' ', refusal);
+    count(b' ', index);
+    count(b' ', place);
 }
 
 fn yes_or_no(b: bool) {
@@ -29,7 +29,7 @@ pub fn replayed(name: &[u8], file: &[u8], trace: &[u8]) {
         ReplayAnswer::ProgramRefused(n, place) => answer(b" program", n, 0, place),
         ReplayAnswer::TraceRefused(n, index, place) => answer(b" trace", n, index, place),
     }
-    count(b" ", r.steps);
+    count(b' ', r.steps);
     yes_or_no(r.complete);
     yes_or_no(r.holds);
     state(r.machine);

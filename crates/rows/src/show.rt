@@ -1,4 +1,5 @@
 // A state printed on one line: the message count, the messages, and each thread after a bar, from its position on. Views, times and registers that are 0 are left out.
+use crate::byte;
 use crate::number;
 use crate::text;
 use machine::Machine;
@@ -11,15 +12,16 @@ use machine::promises::has;
 // A message as (location value thread). An entry past the count is shown where it is not 0: 20 refuses it.
 fn message(used: bool, w: Message) {
     if used | (w.location != 0) | (w.value != 0) | (w.thread != 0) {
-        number(b" (", w.location);
-        number(b" ", w.value);
-        number(b" ", w.thread);
-        text(b")");
+        byte(b' ');
+        number(b'(', w.location);
+        number(b' ', w.value);
+        number(b' ', w.thread);
+        byte(b')');
     }
 }
 
 fn memory(m: Memory) {
-    number(b" ", m.count);
+    number(b' ', m.count);
     for k in 0..16 {
         let j = k as usize;
         let w = m.messages[j];
@@ -28,40 +30,43 @@ fn memory(m: Memory) {
 }
 
 // A register as value@view, a forward pair as time@view.
-fn pair(label: &[u8], k: u8, a: u8, view: u8) {
+fn pair(letter: u8, k: u8, a: u8, view: u8) {
     if (a != 0) | (view != 0) {
-        number(label, k);
-        number(b"=", a);
-        number(b"@", view);
+        byte(b' ');
+        number(letter, k);
+        number(b'=', a);
+        number(b'@', view);
     }
 }
 
-fn view(label: &[u8], v: u8) {
+fn view(name: &[u8], v: u8) {
     if v != 0 {
-        number(label, v);
+        text(name);
+        number(b'=', v);
     }
 }
 
 fn coherence(l: u8, v: u8) {
     if v != 0 {
-        number(b" c", l);
-        number(b"=", v);
+        byte(b' ');
+        number(b'c', l);
+        number(b'=', v);
     }
 }
 
 fn views(w: Views) {
-    view(b" rOld=", w.rOld);
-    view(b" wOld=", w.wOld);
-    view(b" rNew=", w.rNew);
-    view(b" wNew=", w.wNew);
-    view(b" cap=", w.cap);
-    view(b" rel=", w.rel);
+    view(b" rOld", w.rOld);
+    view(b" wOld", w.wOld);
+    view(b" rNew", w.rNew);
+    view(b" wNew", w.wNew);
+    view(b" cap", w.cap);
+    view(b" rel", w.rel);
 }
 
 fn registers(s: Thread) {
     for n in 0..8 {
         let w = s.register_at(n);
-        pair(b" r", n, w.value, w.view);
+        pair(b'r', n, w.value, w.view);
     }
 }
 
@@ -69,20 +74,22 @@ fn locations(s: Thread) {
     for l in 0..16 {
         coherence(l, s.coherence_at(l));
         let w = s.forward_at(l);
-        pair(b" f", l, w.time, w.view);
+        pair(b'f', l, w.time, w.view);
     }
 }
 
 fn promises(p: u16) {
     for t in 1..17 {
         if has(p, t) {
-            number(b" p", t);
+            byte(b' ');
+            number(b'p', t);
         }
     }
 }
 
 fn thread(s: Thread) {
-    number(b" | ", s.position);
+    text(b" |");
+    number(b' ', s.position);
     registers(s);
     locations(s);
     views(s.views);
@@ -95,5 +102,5 @@ pub fn state(x: Machine) {
     for i in 0..4 {
         thread(x.thread_of(i));
     }
-    text(b"\n");
+    byte(b'\n');
 }

@@ -1,9 +1,11 @@
 // Single fields of a program, a memory and a thread set to a value: the ways to a state that no step reaches.
+// A location and an entry are taken modulo 16.
 use machine::Memory;
 use machine::Message;
 use machine::Thread;
 use machine::Views;
 use source::Program;
+use std::num::wrapping_sub_u8;
 
 // n: so many equal messages, where there is room; the count is as asked, also above 16.
 pub fn equal_messages(m: Memory, count: u8, w: Message) -> Memory {
@@ -19,9 +21,7 @@ pub fn equal_messages(m: Memory, count: u8, w: Message) -> Memory {
 
 // u: the entry k of the messages; the count stays.
 pub fn one_message(mut m: Memory, k: u8, w: Message) -> Memory {
-    if k < 16 {
-        m.messages[k as usize] = w;
-    }
+    m.messages[(k % 16) as usize] = w;
     m
 }
 
@@ -38,36 +38,16 @@ fn with_view(mut w: Views, which: u8, v: u8) -> Views {
     w
 }
 
-// o: time t among the promises of a thread that has none.
-fn with_promise(s: Thread, t: u8) -> Thread {
-    if t == 0 {
-        return s;
-    }
-    if 16 < t {
-        return s;
-    }
-    s.with_promises(1u16 << (t - 1))
-}
-
-// h: the coherence view of a location, raised; f: its forward pair.
-fn with_location(s: Thread, letter: u8, l: u8, a: u8, b: u8) -> Thread {
-    if l < 16 {
-        if letter == b'h' {
-            return s.raise_coherence(l, a);
-        }
-        return s.with_forward(l, a, b);
-    }
-    s
-}
-
-// p: the position; r: a register.
+// p: the position; r: a register; o: one promise, at a time from 1 to 16; h: the coherence view of a location, raised;
+// f: its forward pair.
 pub fn thread_field(s: Thread, letter: u8, a: u8, b: u8, c: u8) -> Thread {
     match letter {
         b'p' => s.with_position(a),
         b'r' => s.with_register(a, b, c),
         b'v' => s.with_views(with_view(s.views, a, b)),
-        b'o' => with_promise(s, a),
-        _ => with_location(s, letter, a, b, c),
+        b'o' => s.with_promises(1u16 << (wrapping_sub_u8(a, 1) % 16)),
+        b'h' => s.raise_coherence(a % 16, b),
+        _ => s.with_forward(a % 16, b, c),
     }
 }
 

@@ -6,10 +6,10 @@ use Rattle.rows.proofs.show.locations.Statement.{statement}
 use Rattle.rows.proofs.show.locations.Tie as tie
 
 abbrev Inv-loop : tie.InvT-loop
-Inv-loop s l₀ t4 l = l ≤ 16
+Inv-loop s l₀ l = l ≤ 16
 
 abbrev μ-loop : tie.MeasureT-loop
-μ-loop s l₀ t4 l = 16 - l
+μ-loop s l₀ l = 16 - l
 
 loop-holds : tie.Need-loop-holds Inv-loop μ-loop
 loop-holds c = search needs
@@ -22,9 +22,6 @@ coherence-requires c κs = search needs
 
 forward-at-requires : tie.Need-forward-at-requires Inv-loop μ-loop
 forward-at-requires c κs = search needs
-
-slice-aggregate-pair : tie.Need-slice-aggregate-pair Inv-loop μ-loop
-slice-aggregate-pair c = search needs
 
 pair-requires : tie.Need-pair-requires Inv-loop μ-loop
 pair-requires c κs = search needs
@@ -51,7 +48,6 @@ locations-spec =
     coherence-at-requires
     coherence-requires
     forward-at-requires
-    slice-aggregate-pair
     pair-requires
     add-l
     loop-less

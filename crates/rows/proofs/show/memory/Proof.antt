@@ -11,9 +11,6 @@ Inv-loop m k₀ k = k ≤ 16
 abbrev μ-loop : tie.MeasureT-loop
 μ-loop m k₀ k = 16 - k
 
-slice-aggregate-number : tie.Need-slice-aggregate-number Inv-loop μ-loop
-slice-aggregate-number c = search needs
-
 number-requires : tie.Need-number-requires Inv-loop μ-loop
 number-requires c κs = search needs
 
@@ -50,7 +47,6 @@ memory-spec =
     (tie.spec
     Inv-loop
     μ-loop
-    slice-aggregate-number
     number-requires
     loop-holds
     cast-j

@@ -6,10 +6,10 @@ use Rattle.rows.proofs.show.promises.Statement.{statement}
 use Rattle.rows.proofs.show.promises.Tie as tie
 
 abbrev Inv-loop : tie.InvT-loop
-Inv-loop p t₀ t3 t = t ≤ 17
+Inv-loop p t₀ t = t ≤ 17
 
 abbrev μ-loop : tie.MeasureT-loop
-μ-loop p t₀ t3 t = 17 - t
+μ-loop p t₀ t = 17 - t
 
 loop-holds : tie.Need-loop-holds Inv-loop μ-loop
 loop-holds c = search needs
@@ -17,8 +17,8 @@ loop-holds c = search needs
 has-requires : tie.Need-has-requires Inv-loop μ-loop
 has-requires c κs = search needs
 
-slice-aggregate-number : tie.Need-slice-aggregate-number Inv-loop μ-loop
-slice-aggregate-number c = search needs
+byte-requires : tie.Need-byte-requires Inv-loop μ-loop
+byte-requires c κs = search needs
 
 number-requires : tie.Need-number-requires Inv-loop μ-loop
 number-requires c κs = search needs
@@ -43,7 +43,7 @@ promises-spec =
     μ-loop
     loop-holds
     has-requires
-    slice-aggregate-number
+    byte-requires
     number-requires
     add-t
     loop-less

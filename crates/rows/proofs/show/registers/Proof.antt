@@ -6,19 +6,16 @@ use Rattle.rows.proofs.show.registers.Statement.{statement}
 use Rattle.rows.proofs.show.registers.Tie as tie
 
 abbrev Inv-loop : tie.InvT-loop
-Inv-loop s n₀ t4 n = n ≤ 8
+Inv-loop s n₀ n = n ≤ 8
 
 abbrev μ-loop : tie.MeasureT-loop
-μ-loop s n₀ t4 n = 8 - n
+μ-loop s n₀ n = 8 - n
 
 loop-holds : tie.Need-loop-holds Inv-loop μ-loop
 loop-holds c = search needs
 
 register-at-requires : tie.Need-register-at-requires Inv-loop μ-loop
 register-at-requires c κs = search needs
-
-slice-aggregate-pair : tie.Need-slice-aggregate-pair Inv-loop μ-loop
-slice-aggregate-pair c = search needs
 
 pair-requires : tie.Need-pair-requires Inv-loop μ-loop
 pair-requires c κs = search needs
@@ -43,7 +40,6 @@ registers-spec =
     μ-loop
     loop-holds
     register-at-requires
-    slice-aggregate-pair
     pair-requires
     add-n
     loop-less

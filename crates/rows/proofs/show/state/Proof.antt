@@ -6,10 +6,10 @@ use Rattle.rows.proofs.show.state.Statement.{statement}
 use Rattle.rows.proofs.show.state.Tie as tie
 
 abbrev Inv-loop : tie.InvT-loop
-Inv-loop x i₀ t3 i = i ≤ 4
+Inv-loop x i₀ i = i ≤ 4
 
 abbrev μ-loop : tie.MeasureT-loop
-μ-loop x i₀ t3 i = 4 - i
+μ-loop x i₀ i = 4 - i
 
 memory-requires : tie.Need-memory-requires Inv-loop μ-loop
 memory-requires c κs = search needs
@@ -32,11 +32,8 @@ loop-less c = search needs
 loop-again : tie.Need-loop-again Inv-loop μ-loop
 loop-again c = search needs
 
-slice-aggregate-text : tie.Need-slice-aggregate-text Inv-loop μ-loop
-slice-aggregate-text c = search needs
-
-text-requires : tie.Need-text-requires Inv-loop μ-loop
-text-requires c κs = search needs
+byte-requires : tie.Need-byte-requires Inv-loop μ-loop
+byte-requires c κs = search needs
 
 returns : tie.Need-returns Inv-loop μ-loop
 returns c = search needs
@@ -54,6 +51,5 @@ state-spec =
     add-i
     loop-less
     loop-again
-    slice-aggregate-text
-    text-requires
+    byte-requires
     returns)
