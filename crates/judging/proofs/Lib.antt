@@ -1,3 +1,2 @@
-pub mod Budgets
 pub mod Room
 pub mod Long

@@ -1,10 +1,9 @@
 // The printing program but for its main: a program file on standard input, its answer on standard output.
 mod answers;
-pub mod argument;
 
 use answers::answer;
-use argument::Budget;
-use argument::budget_of;
+use budgets::Budget;
+use budgets::budget_of;
 use libc::STDERR_FILENO;
 use libc::STDIN_FILENO;
 

@@ -1,7 +1,7 @@
 // One test on a line: its name, the budget, the published verdict and the bytes of the program file, a space between.
+use budgets::Budget;
+use budgets::budget_of;
 use check::same;
-use judging::argument::Budget;
-use judging::argument::budget_of;
 use rows::count;
 use rows::file::File;
 use rows::file::add;

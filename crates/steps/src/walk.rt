@@ -87,7 +87,7 @@ fn memory_set(mut x: Machine, k: Command) -> Machine {
     x
 }
 
-// p, r, h, f, v and o.
+// p, r, h, f, v and o, of a thread that is taken modulo 4.
 fn thread_set(x: Machine, k: Command) -> Machine {
     let i = k.a % 4;
     let s = thread_field(x.thread_of(i), k.letter, k.b, k.c, k.d);

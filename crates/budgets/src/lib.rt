@@ -1,6 +1,6 @@
 // A budget from its decimal digits.
 ghost use mathlib.Core.Path.{_≡_};
-ghost use Rattle.judging.specs.Budget.{budgetOf};
+ghost use Rattle.budgets.specs.Digits.{budgetOf};
 
 pub enum Budget {
     Given(u32),

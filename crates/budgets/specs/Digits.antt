@@ -4,8 +4,8 @@ use mathlib.Core.Bool.{Bool, true, false, cond, _&&_}
 use mathlib.Core.List.{List, [], _∷_}
 use Prim.Native.Nat.{ℕ, _+_, _-_, _*_}
 use lib.Dec.{leb}
-pub use Rattle.judging.specs.declared.argument.Budget.{Budget}
-pub use Rattle.judging.specs.declared.argument.Budget.the-variants.{Given, Bad}
+pub use Rattle.budgets.specs.declared.Budget.{Budget}
+pub use Rattle.budgets.specs.declared.Budget.the-variants.{Given, Bad}
 
 -- 0 to 9 in ASCII
 abbrev pub digit : ℕ → Bool

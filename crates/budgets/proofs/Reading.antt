@@ -10,7 +10,7 @@ use lib.Dec.{leb}
 use lib.ListN.{length, getD, drop}
 use lib.Seq.{drop-cons, drop-length}
 use borrow.Author.Tests.{le-leb, lt-leb}
-use Rattle.judging.specs.Budget.{Budget, Given, Bad, digit, allDigits, decimalFrom, budgetOf}
+use Rattle.budgets.specs.Digits.{Budget, Given, Bad, digit, allDigits, decimalFrom, budgetOf}
 
 -- what the digits bs make of a number n that is read before them
 abbrev onFrom : ℕ → List ℕ → Budget
