@@ -9,7 +9,7 @@ use native.Mathlib.Omega.{arith}
 use lib.Dec.{T, eqb}
 use borrow.Author.Tests.{lt-ltb, le-ltb}
 use Rattle.source.specs.Program.{instrAt}
-use Rattle.machine.specs.State.{append, has}
+use Rattle.machine.specs.State.{append}
 use Rattle.machine.specs.Rules.{Executed, refused, next, execute, addPromise}
 use Rattle.machine.specs.Promises.{First}
 use Rattle.machine.specs.Answers.{ruled, reach, storeMessage, ownStore}

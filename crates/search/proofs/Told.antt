@@ -12,7 +12,7 @@ use Rattle.source.specs.declared.Program.{Program}
 use Rattle.source.specs.declared.ReadAnswer.the-variants as reading
 use Rattle.source.specs.Program.{codeOf}
 use Rattle.source.specs.Tests.{sumBelow}
-use Rattle.source.specs.Counts.{stores, instructions, size}
+use Rattle.source.specs.Counts.{instructions, size}
 use Rattle.source.specs.File.{FileAnswer, readFile}
 use Rattle.source.specs.Answers.{fileRead}
 use Rattle.source.specs.WellFormed.{programTest}

@@ -11,9 +11,9 @@ use lib.ListN.{length, replicate, length-set}
 use lib.Seq.{getD-set-same, getD-set-other}
 use Rattle.source.specs.Tests.{sumBelow}
 use Rattle.source.specs.Program.{Instruction, Code, Program, noCode, noCondition, codeOf}
-use Rattle.source.specs.Counts.{oneStore, storesAmong, storesFrom, stores}
+use Rattle.source.specs.Counts.{oneStore, storesAmong, storesFrom}
 use Rattle.source.specs.WellFormed.{instructionTests, instructionTest}
-use Rattle.source.specs.File.{program, Reading, stopped, reading, byteAt, instructionOf, withCode, withInstruction, readInstruction, readInstructions, readThread, readThreads}
+use Rattle.source.specs.File.{Reading, stopped, reading, byteAt, instructionOf, withCode, withInstruction, readInstruction, readInstructions, readThread, readThreads}
 use Rattle.source.proofs.Counts.{sum-same}
 use Rattle.source.proofs.Filled.{Filled, demand-passed, range-passed, mark-passed, more, fill, opened, stores-none, stores-all, stores-fill, reading-same}
 

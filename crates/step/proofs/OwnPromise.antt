@@ -15,7 +15,7 @@ use Rattle.source.specs.Program.{instrAt, codeOf}
 use Rattle.source.specs.WellFormed.{programTest}
 use Rattle.source.proofs.Tests.{or-cases, and-left, and-right, and-both}
 use Rattle.source.proofs.Formed.{program-ok}
-use Rattle.machine.specs.State.{freshForward, freshThread, fresh, threadOf, messageAt, has}
+use Rattle.machine.specs.State.{freshForward, freshThread, threadOf, messageAt, has}
 use Rattle.machine.specs.Rules.{Executed, next, test, viewOf₂, readable, noneNewer, readView, loadDone, loadAt, execute}
 use Rattle.machine.specs.WellFormed.{machineTest}
 use Rattle.machine.proofs.Sets.{has-none, has-removed, has-added}

@@ -8,7 +8,7 @@ use borrow.Author.Tests.{lt-ltb, le-ltb}
 use Rattle.step.specs.Step.{Step}
 use Rattle.step.specs.Order.{range, forEach, execution, promise, executions, promises, everyStep}
 use Rattle.listing.proofs.Keys.{keyPromise}
-use Rattle.visits.specs.Visits.{stepAt}
+use Rattle.tries.specs.Steps.{stepAt}
 
 range-append : (a m n : ℕ) → range a (m + n) ≡ range a m ++ range (a + m) n
 unfolding range

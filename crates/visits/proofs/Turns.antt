@@ -38,13 +38,15 @@ use Rattle.step.proofs.Bound.{potential, lowers}
 use Rattle.step.proofs.Kept.{kept}
 use Rattle.listing.specs.Listing.{stepping}
 use Rattle.listing.proofs.Keys.{keyPromise}
-use Rattle.visits.specs.Visits.{Ran, Going, Found, Out, visiting, trying, atEnd, NextOpen, Tells, Ready, stepAt, Numbered, Next}
+use Rattle.visits.specs.Visits.{Ran, Going, Found, Out, visiting, trying, atEnd, Tells, Ready}
+use Rattle.tries.specs.Steps.{NextOpen, stepAt, Numbered, Next}
 use Rattle.listing.proofs.Machine.{lawful}
-use Rattle.visits.specs.Worthwhile.{Attempts, Worth}
+use Rattle.tries.specs.declared.Attempts.{Attempts}
+use Rattle.tries.specs.Worthwhile.{Worth}
 use Rattle.visits.proofs.Ranges.{steps-from, next-step, at-end, stepsOf, threads-from, all-threads, next-thread, by-number}
 use Rattle.visits.proofs.Parts.{visiting-is, none-left, is-wanted, not-wanted, no-step, two-parts, step-refused, step-accepted}
 use Rattle.visits.proofs.Skipped.{no-more-threads, passed-over}
-use Rattle.visits.proofs.Worth.{nothing-left}
+use Rattle.tries.proofs.Worth.{nothing-left}
 use Rattle.visits.proofs.Telling.{trace-length, put-under, went-on}
 
 -- one part after another, and then a third

@@ -1,8 +1,4 @@
 // The visits: a state, then each state that an accepted step leads to. The trace is written on the way back.
-mod threads;
-mod times;
-mod tries;
-
 ghost use mathlib.Core.Path.{_≡_};
 ghost use Prim.Native.Nat.{_+_, _≤_};
 ghost use lib.ListN.{length};
@@ -17,10 +13,10 @@ use source::Program;
 use step::StepAnswer;
 use step::TraceStep;
 use step::memory_after;
-use threads::next_open;
 use tries::attempt;
 use tries::next_try;
 use tries::step_at;
+use tries::threads::next_open;
 use tries::tries_of;
 
 // How far a visit has come: on, with so much of the budget left; at a wanted sequence of so many steps, with so much left; or
@@ -29,13 +25,6 @@ pub enum Ran {
     Going(u32),
     Found(u32, usize),
     Out,
-}
-
-// What is worth a try of a thread: its next instruction at time 0 and at the times of a set, and promises.
-pub struct Attempts {
-    pub zero: bool,
-    pub later: u16,
-    pub promises: bool,
 }
 
 // The six bytes of step k, at a place.

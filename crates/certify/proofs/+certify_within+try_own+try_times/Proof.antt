@@ -6,7 +6,6 @@ use borrow.Author.Needs.{needs}
 use borrow.Fn.Kinds.{In}
 use Rattle.machine.proofs.Cases.{ruled-done}
 use Rattle.machine.proofs.Effects.{effect}
-use Rattle.machine.specs.State.{append}
 use Rattle.certify.proofs.Trying.{cert-now, cert-out, cert-end, cert-time, cert-own, any-none, ready-after, ready-own, reach-byte, own-full, own-stuck, own-goes, own-none, times-hit, times-miss, times-refused}
 use borrow.Fn.PlainCycle.{Measures, is, falls, and}
 use Rattle.certify.proofs.certify_within.Reads as certify-within

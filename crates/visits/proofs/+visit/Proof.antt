@@ -18,11 +18,11 @@ use Rattle.source.proofs.Code.instr_at.Reads as instr-at-reads
 use Rattle.step.proofs.memory_after.Reads as memory-after-reads
 use Rattle.visits.proofs.at_end.Reads as at-end-reads
 use Rattle.visits.proofs.put_step.Reads as put-step-reads
-use Rattle.visits.proofs.threads.next_open.Reads as next-open-reads
-use Rattle.visits.proofs.tries.attempt.Reads as attempt-reads
-use Rattle.visits.proofs.tries.next_try.Reads as next-try-reads
-use Rattle.visits.proofs.tries.step_at.Reads as step-at-reads
-use Rattle.visits.proofs.tries.tries_of.Reads as tries-of-reads
+use Rattle.tries.proofs.threads.next_open.Reads as next-open-reads
+use Rattle.tries.proofs.attempt.Reads as attempt-reads
+use Rattle.tries.proofs.next_try.Reads as next-try-reads
+use Rattle.tries.proofs.step_at.Reads as step-at-reads
+use Rattle.tries.proofs.tries_of.Reads as tries-of-reads
 use Rattle.visits.proofs.+visit.{statement}
 use Rattle.visits.proofs.+visit.Tie.{close}
 

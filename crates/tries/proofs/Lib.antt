@@ -1,0 +1,4 @@
+pub mod Refused
+pub mod Sets
+pub mod Worth
+pub mod Open

@@ -1,0 +1,172 @@
+-- What the code of the next step worth a try relies on, on plain values: numbers of steps, stores that are left, what a thread can try.
+-- Assumes nothing.
+use mathlib.Core.Path.{_≡_, sym, ap, subst, _∙_}
+use mathlib.Core.Bool.{Bool, true, false, cond}
+use mathlib.Core.Option.{none, some}
+use Prim.Native.Nat.{ℕ, zero, suc, _+_, _-_, _/_, _%_, _≤_, _<_}
+use native.Mathlib.Decide.{decLt}
+use native.Mathlib.Omega.{arith}
+use lib.Count.{ones}
+use lib.Dec.{T, eqb, ltb}
+use borrow.Author.Tests.{lt-ltb, le-ltb, ltb-false}
+use Rattle.source.specs.declared.Code.{Code}
+use Rattle.source.specs.declared.Instruction.{Instruction}
+use Rattle.source.specs.declared.Instr.{Instr}
+use Rattle.source.specs.declared.Program.{Program}
+use Rattle.source.specs.Program.{instructionAt, instrAt}
+use Rattle.source.specs.Counts.{oneStore, storesAmong, storesFrom}
+use Rattle.machine.specs.declared.Memory.{Memory}
+use Rattle.machine.specs.declared.Thread.{Thread}
+use Rattle.machine.specs.declared.Machine.{Machine}
+use Rattle.machine.specs.State.{threadOf}
+use Rattle.machine.specs.Rules.{next, execute}
+use Rattle.candidates.specs.declared.Possible.{Possible}
+use Rattle.candidates.specs.Answers.{Covers}
+use Rattle.candidates.specs.Answers as possible
+use Rattle.step.specs.Step.{Step, step, taken}
+use Rattle.step.specs.Order.{execution}
+use Rattle.step.specs.Answers.{Here}
+use Rattle.listing.proofs.Keys.{keyPromise}
+use Rattle.tries.specs.Steps.{stepAt, Next}
+use Rattle.tries.specs.Worthwhile.{Attempts, AtZero, Later, After, timely, Worth, NextTime}
+use Rattle.tries.proofs.Refused.{no-instruction, no-such-time, no-store-left, not-possible}
+
+-- ---- numbers of steps
+pub at-time : (i k : ℕ) → k < 17 → execution i k ≡ stepAt i k
+unfolding stepAt
+at-time i k h = rw (lt-ltb k 17 h)
+
+pub at-key : (i k : ℕ) → 17 ≤ k → keyPromise i (k - 17) ≡ stepAt i k
+unfolding stepAt
+at-key i k h = rw (le-ltb k 17 h)
+
+-- ---- the stores that are left
+one-at-most : (x : Instruction) → oneStore x ≤ 1
+unfolding oneStore
+one-at-most x = go (eqb (x .op) 2)
+  where
+    go : (b : Bool) → cond b 1 0 ≤ 1
+    go true = omega arith
+    go false = omega arith
+
+pub counts-one : (v : ℕ) (x : Instruction) → v ≡ oneStore x → v ≤ 1
+counts-one v x e = let o = one-at-most x in omega arith
+
+pub stores-more : (c : Code) (k : ℕ) → k < c .count → storesFrom c k ≡ oneStore (instructionAt c k) + storesFrom c (k + 1)
+unfolding storesFrom storesAmong
+stores-more c k h =
+    let e : c .count - k ≡ suc (c .count - (k + 1)) = omega arith in
+    let f : suc k ≡ k + 1 = omega arith in
+    ap (storesAmong c k) e ∙ ap (λ (j : ℕ). oneStore (instructionAt c k) + storesAmong c j (c .count - (k + 1))) f
+
+pub stores-end : (c : Code) (k : ℕ) → c .count ≤ k → storesFrom c k ≡ 0
+unfolding storesFrom storesAmong
+stores-end c k h = let e : c .count - k ≡ 0 = omega arith in ap (storesAmong c k) e
+
+-- counted one by one
+pub counted-more : (c : Code) (n r k v : ℕ) (o : Instruction) → (r + storesFrom c k ≡ storesFrom c n) × (r ≤ k) → k < c .count → o ≡ instructionAt c k → v ≡ oneStore o
+    → (r + v + storesFrom c (k + 1) ≡ storesFrom c n) × (r + v ≤ k + 1)
+counted-more c n r k v o inv l e f =
+    let i0 = inv .0 in
+    let i1 = inv .1 in
+    let one = one-at-most o in
+    let more = stores-more c k l in
+    let same : oneStore o ≡ oneStore (instructionAt c k) = ap oneStore e in
+    (omega arith, omega arith)
+
+pub counted-all : (c : Code) (n r k : ℕ) → (r + storesFrom c k ≡ storesFrom c n) × (r ≤ k) → c .count ≤ k → r ≡ storesFrom c n
+counted-all c n r k inv l = let i0 = inv .0 in let e = stores-end c k l in omega arith
+
+-- ---- what a thread can try
+module _ (c : Code) (m : Memory) (s : Thread) where
+  no-promise : storesFrom c (s .position) ≤ ones (s .promises) → (p : Program) (x : Machine) (i : ℕ) → Here c m s p x i → (n : ℕ) → taken (step p x (keyPromise i n)) ≡ none
+  no-promise full p x i h n = no-store-left p x i (n / 256) (n % 256) (rw (h .code, h .thread) full)
+
+  -- all steps of a thread at its end are refused
+  pub nothing-left : c .count ≤ s .position → Next stepAt 4113 c m s 0 4113
+  nothing-left e =
+      let z = stores-end c (s .position) e in
+      record {
+        within = omega arith;
+        after = λ l. l;
+        refused = λ p x i g j a u. elim (decLt j 17) [
+          | yes b ↦ ap (λ (y : Step). taken (step p x y)) (sym (at-time i j b)) ∙ no-instruction p x i j (rw (g .code, g .thread) e)
+          | no b ↦ ap (λ (y : Step). taken (step p x y)) (sym (at-key i j (omega arith))) ∙ no-promise (omega arith) p x i g (j - 17)
+        ];
+      }
+
+  -- what the next instruction and the stores that are left give
+  pub what-is-worth : (y : Instr) → instrAt c (s .position) ≡ some y → (z : Bool) → AtZero y z → (r : ℕ) → Later y m s r → (n : ℕ)
+      → n ≡ storesFrom c (s .position) → Worth c m s (record { zero = z; later = r; promises = ltb (ones (s .promises)) n })
+  what-is-worth y is-next z zero-only r later-only n e =
+      record {
+        times = λ p x i g k l. no-such-time p x i y (rw (g .code, g .thread) is-next) k (λ s' q. never k l s' (subst (λ (v : Thread). execute y m k v ≡ next s') (g .thread) (subst (λ (n : Memory). execute y n k (threadOf x i) ≡ next s') (g .memory) q)));
+        promises = λ f. let few = ltb-false (ones (s .promises)) n f in no-promise (omega arith);
+      }
+    where
+      never : (k : ℕ) → timely (record { zero = z; later = r; promises = ltb (ones (s .promises)) n }) k ≡ false → (s' : Thread) → execute y m k s ≡ next s' → ⊥
+      never zero l s' q = zero-only l m s s' q
+      never (suc k) l s' q = subst T l (later-only (suc k) s' (omega arith) q)
+
+-- ---- the next of them
+module _ {t : Attempts} where
+  pub at-zero-now : t .zero ≡ true → NextTime t 0 0
+  at-zero-now e = record { within = omega arith; after = λ l. omega arith; others = λ u l h. absurd (omega arith) }
+
+  pub after-zero : t .zero ≡ false → (r : ℕ) → After (t .later) 0 r → NextTime t 0 r
+  after-zero e r a = record { within = a .within; after = λ l. omega arith; others = λ u l h. go u h }
+    where
+      go : (u : ℕ) → u < r → timely t u ≡ false
+      go zero h = e
+      go (suc u) h = a .between (suc u) (omega arith) h
+
+  pub after-time : (k r : ℕ) → (k ≡ 0 → ⊥) → After (t .later) (k - 1) r → NextTime t k r
+  after-time k r n a = let l = a .later in record { within = a .within; after = λ _. omega (arith, n); others = λ u l h. go u l h }
+    where
+      go : (u : ℕ) → k ≤ u → u < r → timely t u ≡ false
+      go zero l h = absurd (n (omega arith))
+      go (suc u) l h = a .between (suc u) (omega (arith, n)) h
+
+module _ (c : Code) (m : Memory) (s : Thread) (t : Attempts) (w : Worth c m s t) where
+  pub none-promised : (from : ℕ) → t .promises ≡ false → Next keyPromise 4096 c m s from 4096
+  none-promised from e = record { within = omega arith; after = λ l. l; refused = λ p x i h k l u. w .promises e p x i h k }
+
+  -- at a time
+  pub at-a-time : (from k : ℕ) → from < 17 → NextTime t from k → k < 17 → Next stepAt 4113 c m s from k
+  at-a-time from k h nt l =
+      record {
+        within = omega arith;
+        after = λ _. nt .after (omega arith);
+        refused = λ p x i g j a u. ap (λ (y : Step). taken (step p x y)) (sym (at-time i j (omega arith))) ∙ w .times p x i g j (nt .others j a u);
+      }
+
+  -- no time is left, so on to the promises
+  pub after-times : (from k n : ℕ) → from < 17 → NextTime t from k → 17 ≤ k → Next keyPromise 4096 c m s 0 n → Next stepAt 4113 c m s from (n + 17)
+  after-times from k n h nt l nx =
+      record {
+        within = let a = nx .within in omega arith;
+        after = λ _. omega arith;
+        refused = λ p x i g j a u. elim (decLt j 17) [
+          | yes b ↦ ap (λ (y : Step). taken (step p x y)) (sym (at-time i j b)) ∙ w .times p x i g j (nt .others j a (omega arith))
+          | no b ↦ ap (λ (y : Step). taken (step p x y)) (sym (at-key i j (omega arith))) ∙ nx .refused p x i g (j - 17) (omega arith) (omega arith)
+        ];
+      }
+
+module _ (c : Code) (m : Memory) (s : Thread) where
+  pub next-possible : (r : Possible) → Covers c m s r → (from n : ℕ) → possible.Next r from n → Next keyPromise 4096 c m s from n
+  next-possible r all from n nx =
+      record {
+        within = nx .within;
+        after = λ l. elim (decLt n 4096) [ yes h ↦ nx .after h | no h ↦ omega arith ];
+        refused = λ p x i h k l u.
+            let top = nx .within in
+            not-possible p x i r (rw (h .code, h .memory, h .thread) all) (k / 256) (k % 256) (λ q. let v = nx .least k (omega arith) l q in omega arith);
+      }
+
+  pub past-times : (from n : ℕ) → 17 ≤ from → Next keyPromise 4096 c m s (from - 17) n → Next stepAt 4113 c m s from (n + 17)
+  past-times from n h nx =
+      record {
+        within = let w = nx .within in omega arith;
+        after = λ l. let a : from - 17 ≤ n = nx .after (omega arith) in omega arith;
+        refused = λ p x i g k l u. ap (λ (y : Step). taken (step p x y)) (sym (at-key i k (omega arith))) ∙ nx .refused p x i g (k - 17) (omega arith) (omega arith);
+      }
