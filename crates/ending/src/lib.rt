@@ -79,7 +79,7 @@ fn all_hold(n: u8, question: [Condition; 8], x: Machine) -> bool
     true
 }
 
-fn question_holds(p: Program, x: Machine) -> bool
+pub fn question_holds(p: Program, x: Machine) -> bool
     requires { ⌜ Formed p x ⌝ }
     ensures { λ r. ⌜ r ≡ questionHolds p x ⌝ }
 {

@@ -1,12 +1,16 @@
 -- What the answer of a part of the search says of the whole, and what a step does to the answer below it.
 -- Assumes nothing.
-use mathlib.Core.Path.{_≡_, refl, ap, _∙_}
+use mathlib.Core.Path.{_≡_, refl, sym, ap, _∙_}
+use mathlib.Core.Bool.{Bool, true, false}
 use mathlib.Core.List.{List, [], _∷_, _++_}
 use Prim.Native.Nat.{ℕ, _+_, _*_, _≤_}
 use native.Mathlib.Omega.{arith}
 use lib.ListN.{length, take, drop}
 use lib.Seq.{take-append-le, take-take, drop-at, length-take-le}
+use Rattle.source.specs.declared.Program.{Program}
+use Rattle.machine.specs.declared.Machine.{Machine}
 use Rattle.step.specs.Step.{Step}
+use Rattle.step.specs.Outcome.{complete, questionHolds, asked}
 use Rattle.step.specs.Trace.{stepBytes, traceBytes}
 use Rattle.values.specs.Lists.{put}
 use Rattle.sequences.proofs.Scan.{Scan, going, found, out}
@@ -40,3 +44,13 @@ module _ {d : ℕ} {r : Ran} {old new : List ℕ} where
   went-on (going c) t b e = let q : c ≡ b = let a = t .answer in cc in (ap going q, t .lent)
   went-on (found c q) t b e = absurd (let a = t .answer in let z : _≡_ {A = ℕ} 0 1 = cc in omega arith)
   went-on out t b e = absurd (let a = t .answer in let z : _≡_ {A = ℕ} 0 1 = cc in omega arith)
+
+-- ---- the asked outcome in its two parts
+module _ (p : Program) (x : Machine) (a : Bool) (e : a ≡ complete p x) where
+  pub asked-both : a ≡ true → (b : Bool) → b ≡ questionHolds p x → asked p x ≡ b
+  unfolding asked
+  asked-both h b g = rw (sym e ∙ h) (sym g)
+
+  pub asked-not : a ≡ false → asked p x ≡ false
+  unfolding asked
+  asked-not h = rw (sym e ∙ h)

@@ -7,7 +7,8 @@ ghost use Rattle.step.specs.Outcome.{asked};
 ghost use Rattle.step.specs.Trace.{stepBytes};
 ghost use Rattle.values.specs.Lists.{put};
 ghost use Rattle.visits.specs.Visits.{visiting, atEnd, Tells, Ready};
-use ending::asked;
+use ending::complete;
+use ending::question_holds;
 use machine::Machine;
 use source::Program;
 use step::StepAnswer;
@@ -40,13 +41,16 @@ fn put_step(area: &mut [u8], at: usize, k: TraceStep)
     area[at + 5] = k.b;
 }
 
-// A state with all threads at their end: nothing follows it.
+// A state with all threads at their end: nothing follows it. The two parts of `asked` are called by themselves: together they
+// are too long for the compiler to put here, and a call would copy program and machine.
 fn at_end(p: Program, x: Machine, depth: usize, rest: u32) -> Ran
     requires { ⌜ Formed p x ⌝ }
     ensures { λ r. ⌜ r ≡ atEnd depth rest (asked p x) ⌝ }
 {
-    if asked(p, x) {
-        return Ran::Found(rest, depth);
+    if complete(p, x) {
+        if question_holds(p, x) {
+            return Ran::Found(rest, depth);
+        }
     }
     Ran::Going(rest)
 }
