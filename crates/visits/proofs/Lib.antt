@@ -2,4 +2,5 @@ pub mod Ranges
 pub mod Parts
 pub mod Skipped
 pub mod Telling
+pub mod InPlace
 pub mod Turns

@@ -14,7 +14,7 @@ use Rattle.source.specs.declared.Program.{Program}
 use Rattle.machine.specs.declared.Memory.{Memory}
 use Rattle.machine.specs.declared.Thread.{Thread}
 use Rattle.machine.specs.declared.Machine.{Machine}
-use Rattle.machine.specs.State.{threadOf}
+use Rattle.machine.specs.State.{freshThread, threadOf}
 use Rattle.source.specs.Program.{instrAt, codeOf}
 use Rattle.source.specs.declared.Instr.{Instr}
 use Rattle.source.proofs.Tests.{and-left, below-at}
@@ -44,6 +44,7 @@ use Rattle.listing.proofs.Machine.{lawful}
 use Rattle.tries.specs.declared.Attempts.{Attempts}
 use Rattle.tries.specs.Worthwhile.{Worth}
 use Rattle.visits.proofs.Ranges.{steps-from, next-step, at-end, stepsOf, threads-from, all-threads, next-thread, by-number}
+use Rattle.visits.proofs.InPlace.{set-again, set-back}
 use Rattle.visits.proofs.Parts.{visiting-is, none-left, is-wanted, not-wanted, no-step, two-parts, step-refused, step-accepted}
 use Rattle.visits.proofs.Skipped.{no-more-threads, passed-over}
 use Rattle.tries.proofs.Worth.{nothing-left}
@@ -208,21 +209,27 @@ not-asked p x i h l = go (complete p x) refl
         omega arith)
 
 -- ---- what the loops know
+-- y is x but for thread i and the memory
+abbrev Others : Machine → ℕ → Machine → Type 0
+Others x i y = (q : Thread) → set (y .threads) i q ≡ set (x .threads) i q
+
 -- before thread i
-pub record AtThread (p : Program) (x : Machine) (d left : ℕ) (old : List ℕ) (m : Memory) (area : List ℕ) (rest i : ℕ) : Type 0 where
+pub record AtThread (p : Program) (x : Machine) (d left : ℕ) (old : List ℕ) (m : Memory) (y : Machine) (area : List ℕ) (rest i : ℕ) : Type 0 where
   pub ready : Ready p x d old
   pub memory : m ≡ x .memory
   pub four-codes : length (p .codes) ≡ 4
   pub four-threads : length (x .threads) ≡ 4
+  pub put-back : y .threads ≡ x .threads
   pub same : area ≡ old
   pub has-next : i < 4 → (threadOf x i) .position < (codeOf p i) .count
   pub stands : BeforeThread p x (visiting p x left) i rest
 
--- before step k of thread i, which has code c, state s and the next instruction y
-pub record AtStep (p : Program) (x : Machine) (d left : ℕ) (old : List ℕ) (m : Memory) (i : ℕ) (c : Code) (s : Thread) (y : Instr) (t : Attempts) (area : List ℕ) (rest k : ℕ) : Type 0 where
+-- before step k of thread i, which has code c, state s and the next instruction w
+pub record AtStep (p : Program) (x : Machine) (d left : ℕ) (old : List ℕ) (m : Memory) (i : ℕ) (c : Code) (s : Thread) (w : Instr) (t : Attempts) (y : Machine) (area : List ℕ) (rest k : ℕ) : Type 0 where
   pub ready : Ready p x d old
   pub here : Here c m s p x i
-  pub next-is : instrAt c (s .position) ≡ some y
+  pub next-is : instrAt c (s .position) ≡ some w
+  pub others : Others x i y
   pub worth : Worth c m s t
   pub in-program : i < p .threads
   pub in-range : k ≤ 4113
@@ -247,7 +254,7 @@ step-thread i k = go (ltb k 17)
 
 module _ {p : Program} {x : Machine} {d left : ℕ} {old : List ℕ} {m : Memory} where
   pub enters : Ready p x d old → (left ≡ 0 → ⊥) → (i : ℕ) → NextOpen p x 0 i → (i ≡ 4 → ⊥) → m ≡ x .memory → length (p .codes) ≡ 4 → length (x .threads) ≡ 4
-      → AtThread p x d left old m old (left - 1) i
+      → AtThread p x d left old m x old (left - 1) i
   enters o h i n four z q w =
       let top = n .within in
       let l : i < 4 = omega (arith, four) in
@@ -256,12 +263,13 @@ module _ {p : Program} {x : Machine} {d left : ℕ} {old : List ℕ} {m : Memory
         memory = z;
         four-codes = q;
         four-threads = w;
+        put-back = refl;
         same = refl;
         has-next = n .has-next;
         stands = to-open p x 0 i (left - 1) n (begins p x left (omega (arith, h)) (not-asked p x i (has-thread p x (o .well) i l (n .has-next l)) (n .has-next l)));
       }
 
-  module _ {area : List ℕ} {rest i : ℕ} (T : AtThread p x d left old m area rest i) where
+  module _ {y : Machine} {area : List ℕ} {rest i : ℕ} (T : AtThread p x d left old m y area rest i) where
     pub in-program : i < 4 → i < p .threads
     in-program h = has-thread p x (T .ready .well) i h (T .has-next h)
 
@@ -282,14 +290,15 @@ module _ {p : Program} {x : Machine} {d left : ℕ} {old : List ℕ} {m : Memory
         let b = thread-ready h c s e f .code-ok .short in
         (omega arith, l)
 
-    pub first : i < 4 → (c : Code) (s : Thread) → c ≡ codeOf p i → s ≡ threadOf x i → (y : Instr) → instrAt c (s .position) ≡ some y → (t : Attempts) → Worth c m s t → (k : ℕ) → Next stepAt 4113 c m s 0 k
-        → AtStep p x d left area m i c s y t area rest k
-    first h c s e f y is-next t w k nx =
+    pub first : i < 4 → (c : Code) (s : Thread) → c ≡ codeOf p i → s ≡ threadOf x i → (u : Instr) → instrAt c (s .position) ≡ some u → (t : Attempts) → Worth c m s t → (k : ℕ) → Next stepAt 4113 c m s 0 k
+        → AtStep p x d left area m i c s u t y area rest k
+    first h c s e f u is-next t w k nx =
         let g : Here c m s p x i = record { code = sym e; memory = sym (T .memory); thread = sym f } in
         record {
           ready = subst (Ready p x d) (sym (T .same)) (T .ready);
           here = g;
           next-is = is-next;
+          others = λ q. ap (λ (l : List Thread). set l i q) (T .put-back);
           worth = w;
           in-program = in-program h;
           in-range = nx .within;
@@ -304,14 +313,15 @@ module _ {p : Program} {x : Machine} {d left : ℕ} {old : List ℕ} {m : Memory
         (record { answer = refl; lent = T .same })
 
     -- all steps of the thread are done
-    pub leaves : {c : Code} {s : Thread} {y : Instr} {t : Attempts} {area' : List ℕ} {rest' k : ℕ} → AtStep p x d left area m i c s y t area' rest' k → 4113 ≤ k → (r : ℕ) → NextOpen p x (i + 1) r
-        → AtThread p x d left old m area' rest' r
-    leaves {c} {s} {y} {t} {area'} {rest'} {k} U h r n =
+    pub leaves : {c : Code} {s : Thread} {u : Instr} {t : Attempts} {y' : Machine} {area' : List ℕ} {rest' k : ℕ} → AtStep p x d left area m i c s u t y' area' rest' k → 4113 ≤ k
+        → (z : Machine) → z .threads ≡ set (y' .threads) i s → (r : ℕ) → NextOpen p x (i + 1) r → AtThread p x d left old m z area' rest' r
+    leaves {c} {s} {u} {t} {y'} {area'} {rest'} {k} U h z e r n =
         record {
           ready = T .ready;
           memory = T .memory;
           four-codes = T .four-codes;
           four-threads = T .four-threads;
+          put-back = e ∙ U .others s ∙ ap (set (x .threads) i) (sym (U .here .thread)) ∙ set-back (x .threads) i freshThread;
           same = U .same ∙ T .same;
           has-next = n .has-next;
           stands = to-open p x (i + 1) r rest' n (thread-done p x i k rest' h (U .stands));
@@ -321,7 +331,7 @@ module _ {p : Program} {x : Machine} {d left : ℕ} {old : List ℕ} {m : Memory
     pub answers : {r : Ran} {new : List ℕ} → Tells d (visiting p x left) r area new → Tells d (visiting p x left) r old new
     answers {r} {new} t = subst (λ (a : List ℕ). Tells d (visiting p x left) r a new) (T .same) t
 
-  module _ {i : ℕ} {c : Code} {s : Thread} {w : Instr} {t : Attempts} {area : List ℕ} {rest k : ℕ} (U : AtStep p x d left old m i c s w t area rest k) where
+  module _ {i : ℕ} {c : Code} {s : Thread} {w : Instr} {t : Attempts} {o : Machine} {area : List ℕ} {rest k : ℕ} (U : AtStep p x d left old m i c s w t o area rest k) where
     pub step-ready : certified.Ready c m s
     step-ready =
         let h = U .here in
@@ -329,14 +339,22 @@ module _ {p : Program} {x : Machine} {d left : ℕ} {old : List ℕ} {m : Memory
         (subst (λ (n : Memory). certified.Ready (codeOf p i) n s) (h .memory)
         (subst (λ (n : Thread). certified.Ready (codeOf p i) (x .memory) n) (h .thread) (ready-here p x (U .ready .well) i (U .in-program))))
 
+    -- thread i set once more
+    pub set-others : (q : Thread) (o' : Machine) → o' .threads ≡ set (o .threads) i q → Others x i o'
+    set-others q o' e a = ap (λ (l : List Thread). set l i a) e ∙ set-again (o .threads) i q a ∙ U .others a
+
+    pub same-others : (o' : Machine) → o' ≡ o → Others x i o'
+    same-others o' e a = ap (λ (z : Machine). set (z .threads) i a) e ∙ U .others a
+
     -- on to the next try, with b left
-    pub on : (b rest' k' : ℕ) (mid new : List ℕ) → k < 4113 → BeforeStep p x (visiting p x left) i (k + 1) b × (mid ≡ area) → new ≡ mid → rest' ≡ b
-        → Next stepAt 4113 c m s (k + 1) k' → AtStep p x d left old m i c s w t new rest' k'
-    on b rest' k' mid new l v e f nx =
+    pub on : (b rest' k' : ℕ) (mid new : List ℕ) (o' : Machine) → Others x i o' → k < 4113 → BeforeStep p x (visiting p x left) i (k + 1) b × (mid ≡ area) → new ≡ mid → rest' ≡ b
+        → Next stepAt 4113 c m s (k + 1) k' → AtStep p x d left old m i c s w t o' new rest' k'
+    on b rest' k' mid new o' others l v e f nx =
         record {
           ready = U .ready;
           here = U .here;
           next-is = U .next-is;
+          others = others;
           worth = U .worth;
           in-program = U .in-program;
           in-range = nx .within;
@@ -359,12 +377,12 @@ module _ {p : Program} {x : Machine} {d left : ℕ} {old : List ℕ} {m : Memory
           refused-on p x i k rest l (U .stands) n
           (subst (λ (y : Step). step p x y ≡ rejected n) e (thread-refused p x (U .ready .well) k' in-program-too here-too r q n h))
 
-      module _ (h : r .answer ≡ Taken) (n : Memory) (v : Remembers m k' n) (y : Machine) (z : y ≡ record { memory = n; threads = set (x .threads) i (r .thread) }) where
+      module _ (h : r .answer ≡ Taken) (n : Memory) (v : Remembers m k' n) (y : Machine) (z : y ≡ record { memory = n; threads = set (o .threads) i (r .thread) }) where
         is-accepted : step p x (stepAt i k) ≡ accepted y
         is-accepted =
             subst (λ (j : Step). step p x j ≡ accepted y) e
             (thread-taken p x (U .ready .well) k' in-program-too here-too r q h n v y
-            (z ∙ ap (λ (j : ℕ). record { memory = n; threads = set (x .threads) j (r .thread) }) (sym thread-is)))
+            (z ∙ (λ j. record { memory = n; threads = U .others (r .thread) j }) ∙ ap (λ (j : ℕ). record { memory = n; threads = set (x .threads) j (r .thread) }) (sym thread-is)))
 
         pub lower : potential p y < potential p x
         lower = lowers p x y (stepAt i k) is-accepted

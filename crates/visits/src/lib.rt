@@ -56,7 +56,8 @@ fn at_end(p: Program, x: Machine, depth: usize, rest: u32) -> Ran
 }
 
 // Visits x, to which `depth` steps have led, and then each state that an accepted step leads to: threads ascending; within
-// one, executions by time, then promises by location, then value. A refused step costs nothing.
+// one, executions by time, then promises by location, then value. A refused step costs nothing. y is x but for the memory and
+// for the thread whose turn it is: a copy of the machine for each step would cost more than the step.
 pub fn visit(p: Program, x: Machine, depth: usize, left: u32, area: &mut [u8]) -> Ran
     requires { ⌜ Ready p x depth (now area) ⌝ }
     ensures { λ r. ⌜ Tells depth (visiting p x left) r (now (area .entry)) (now (area .exit)) ⌝ }
@@ -69,6 +70,7 @@ pub fn visit(p: Program, x: Machine, depth: usize, left: u32, area: &mut [u8]) -
         return at_end(p, x, depth, left - 1);
     }
     let m = x.memory;
+    let mut y = x;
     let mut rest = left - 1;
     while i < 4 {
         let c = p.codes[i as usize];
@@ -81,11 +83,10 @@ pub fn visit(p: Program, x: Machine, depth: usize, left: u32, area: &mut [u8]) -
             let r = attempt(w, c, m, s, step);
             let answer = r.answer;
             if let StepAnswer::Taken = answer {
-                let mut next = x;
-                next.memory = memory_after(m, step);
+                y.memory = memory_after(m, step);
                 let q = r.thread;
-                next.threads[i as usize] = q;
-                match visit(p, next, depth + 1, rest, area) {
+                y.threads[i as usize] = q;
+                match visit(p, y, depth + 1, rest, area) {
                     Ran::Going(b) => rest = b,
                     Ran::Found(b, n) => {
                         put_step(area, depth * 6, step);
@@ -96,6 +97,7 @@ pub fn visit(p: Program, x: Machine, depth: usize, left: u32, area: &mut [u8]) -
             }
             k = next_try(t, c, m, s, k + 1);
         }
+        y.threads[i as usize] = s;
         i = next_open(p, x, i + 1);
     }
     Ran::Going(rest)
