@@ -4,3 +4,4 @@ pub mod Skipped
 pub mod Telling
 pub mod InPlace
 pub mod Turns
+pub mod Loops

@@ -1,6 +1,7 @@
 -- `visits::visit` meets its contract.
 -- Assumes nothing.
-use Rattle.visits.proofs.Turns.{AtThread, AtStep, out-of-budget, at-the-end, enters, code-at, thread-at, thread-ready, next-there, first, ends, leaves, answers, step-ready, set-others, same-others, on, is-numbered, is-rejected, lower, ready-below, goes-on, runs-out, finds}
+use Rattle.visits.proofs.Turns.{out-of-budget, at-the-end}
+use Rattle.visits.proofs.Loops.{AtThread, AtStep, enters, code-at, thread-at, thread-ready, next-there, first, ends, leaves, answers, step-ready, set-others, same-others, on, is-numbered, is-rejected, lower, ready-below, goes-on, runs-out, finds}
 use Rattle.step.proofs.Bound.{potential}
 use Rattle.machine.specs.declared.Machine.{Machine}
 use Rattle.source.proofs.Arrays.{length-mapped}
