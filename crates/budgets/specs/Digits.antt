@@ -11,6 +11,7 @@ pub use Rattle.budgets.specs.declared.Budget.the-variants.{Given, Bad}
 abbrev pub digit : ℕ → Bool
 digit b = leb 48 b && leb b 57
 
+-- every byte is one
 unfoldable pub allDigits : List ℕ → Bool
 allDigits [] = true
 allDigits (b ∷ bs) = digit b && allDigits bs
