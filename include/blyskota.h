@@ -45,6 +45,7 @@ extern "C" {
 #define BLYSKOTA_CERTIFY_ANSWER 2
 #define BLYSKOTA_REPLAY_ANSWER 357
 #define BLYSKOTA_SEARCH_ANSWER 12
+#define BLYSKOTA_SEARCH_WITHIN_ANSWER 16
 
 /* The least trace area for a search: 6 bytes for each of the 80 steps that a trace has at most. */
 #define BLYSKOTA_TRACE 480
@@ -83,6 +84,15 @@ uint32_t blyskota_replay(const uint8_t *file, size_t file_len, const uint8_t *tr
  */
 uint32_t blyskota_search(const uint8_t *file, size_t file_len, uint32_t budget, uint8_t *area, size_t area_len, uint8_t *answer,
                          size_t answer_len);
+
+/*
+ * The same search with a budget and a count of 64 bits, and with a table that is lent besides: a machine whose sequences were all
+ * visited is kept there (349 bytes each) and not searched again, so that programs with more sequences than could be visited get an
+ * answer. The table has any length, also 0, and may hold anything before; it changes no answer. Answer, 16 bytes: verdict, refusal,
+ * steps, 0, place u32 as above, count u64. Where the search is refused or 1 is returned, the table is as it was, else it is all 0.
+ */
+uint32_t blyskota_search_within(const uint8_t *file, size_t file_len, uint64_t budget, uint8_t *area, size_t area_len, uint8_t *table,
+                                size_t table_len, uint8_t *answer, size_t answer_len);
 
 #ifdef __cplusplus
 }

@@ -1,15 +1,16 @@
 -- The answers have the lengths that the calls test for.
 -- Assumes nothing.
-use mathlib.Core.Path.{_≡_}
+use mathlib.Core.Path.{_≡_, refl, _∙_}
 use native.Mathlib.Omega.{arith}
-use lib.ListN.{length}
+use lib.ListN.{length, length-append}
 use Rattle.source.specs.declared.FileRead.{FileRead}
 use Rattle.step.specs.declared.Stepped.{Stepped}
 use Rattle.replay.specs.declared.Replayed.{Replayed}
 use Rattle.search.specs.declared.Answer.{Answer}
 use Rattle.program_value.proofs.Lengths.{program-length}
 use Rattle.machine_value.proofs.Lengths.{machine-length}
-use Rattle.answers_value.specs.Value.{readBytes, steppedBytes, replayedBytes, searchedBytes}
+use Rattle.values.specs.Numbers.{word32, word64}
+use Rattle.answers_value.specs.Value.{readBytes, steppedBytes, replayedBytes, foundBytes, searchedBytes, withinBytes}
 
 pub read-length : (r : FileRead) → length (readBytes r) ≡ 495
 unfolding readBytes
@@ -23,6 +24,14 @@ pub replayed-length : (r : Replayed) → length (replayedBytes r) ≡ 357
 unfolding replayedBytes
 replayed-length r = omega (arith, machine-length (r .machine))
 
+pub found-length : (r : Answer) → length (foundBytes r) ≡ 8
+unfolding foundBytes
+found-length r = refl
+
 pub searched-length : (r : Answer) → length (searchedBytes r) ≡ 12
 unfolding searchedBytes
-searched-length r = omega arith
+searched-length r = length-append (foundBytes r) (word32 (r .count)) ∙ (let l = found-length r in omega arith)
+
+pub within-length : (r : Answer) → length (withinBytes r) ≡ 16
+unfolding withinBytes
+within-length r = length-append (foundBytes r) (word64 (r .count)) ∙ (let l = found-length r in omega arith)

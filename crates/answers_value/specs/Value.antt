@@ -10,7 +10,7 @@ use Rattle.step.specs.declared.Stepped.{Stepped}
 use Rattle.step.specs.Answers.{refusalOf as stepRefusal}
 use Rattle.replay.specs.declared.Replayed.{Replayed}
 use Rattle.search.specs.declared.Answer.{Answer}
-use Rattle.values.specs.Numbers.{word32}
+use Rattle.values.specs.Numbers.{word32, word64}
 use Rattle.answer_numbers.specs.Cases.{readRefusal, readPlace, certifiedByte, replayRefusal, replayFile, replayIndex, replayPlace, verdictByte, searchRefusal, searchPlace}
 use Rattle.program_value.specs.Value.{programBytes}
 use Rattle.machine_value.specs.Value.{machineBytes}
@@ -36,9 +36,14 @@ replayedBytes r =
     ++ (word32 (replayPlace (r .answer))
     ++ machineBytes (r .machine))))
 
--- ---- search: verdict (0 refused, 1 allowed, 2 forbidden, 3 not finished), refusal, steps, 0, place u32, count u32; 12 bytes
+-- ---- search: verdict (0 refused, 1 allowed, 2 forbidden, 3 not finished), refusal, steps, 0, place u32
+unfoldable pub foundBytes : Answer → List ℕ
+foundBytes r = (verdictByte (r .verdict) ∷ searchRefusal (r .verdict) ∷ r .steps ∷ 0 ∷ []) ++ word32 (searchPlace (r .verdict))
+
+-- and count u32; 12 bytes
 unfoldable pub searchedBytes : Answer → List ℕ
-searchedBytes r =
-    (verdictByte (r .verdict) ∷ searchRefusal (r .verdict) ∷ r .steps ∷ 0 ∷ [])
-    ++ (word32 (searchPlace (r .verdict))
-    ++ word32 (r .count))
+searchedBytes r = foundBytes r ++ word32 (r .count)
+
+-- ---- search within a table: the same with count u64; 16 bytes
+unfoldable pub withinBytes : Answer → List ℕ
+withinBytes r = foundBytes r ++ word64 (r .count)

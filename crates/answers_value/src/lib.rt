@@ -3,7 +3,7 @@ ghost use mathlib.Core.Path.{_≡_};
 ghost use Prim.Native.Nat.{_≤_};
 ghost use lib.ListN.{length};
 ghost use Rattle.values.specs.Lists.{put};
-ghost use Rattle.answers_value.specs.Value.{readBytes, steppedBytes, certifiedBytes, replayedBytes, searchedBytes};
+ghost use Rattle.answers_value.specs.Value.{readBytes, steppedBytes, certifiedBytes, replayedBytes, foundBytes, searchedBytes, withinBytes};
 use answer_numbers::certified_byte;
 use answer_numbers::certify_refusal;
 use answer_numbers::read_place;
@@ -28,6 +28,7 @@ use values::put_four;
 use values::put_one;
 use values::put_two;
 use values::put_u32;
+use values::put_u64;
 
 pub fn put_read(area: &mut [u8], r: FileRead)
     requires { ⌜ 495 ≤ length (now area) ⌝ }
@@ -74,10 +75,10 @@ pub fn put_replayed(area: &mut [u8], r: Replayed)
     put_machine(area, 16, r.machine);
 }
 
-// No trace has more than 80 steps, so their number is a byte.
-pub fn put_searched(area: &mut [u8], r: Answer)
-    requires { ⌜ (12 ≤ length (now area)) × (r .steps ≤ 80) ⌝ }
-    ensures { λ _. ⌜ now (area .exit) ≡ put 0 (searchedBytes r) (now (area .entry)) ⌝ }
+// What stands before the count of a search. No trace has more than 80 steps, so their number is a byte.
+fn put_found(area: &mut [u8], r: Answer)
+    requires { ⌜ (8 ≤ length (now area)) × (r .steps ≤ 80) ⌝ }
+    ensures { λ _. ⌜ now (area .exit) ≡ put 0 (foundBytes r) (now (area .entry)) ⌝ }
 {
     let v = r.verdict;
     put_four(
@@ -89,5 +90,21 @@ pub fn put_searched(area: &mut [u8], r: Answer)
         0,
     );
     put_u32(area, 4, search_place(v));
+}
+
+pub fn put_searched(area: &mut [u8], r: Answer)
+    requires { ⌜ (12 ≤ length (now area)) × (r .steps ≤ 80) ⌝ }
+    ensures { λ _. ⌜ now (area .exit) ≡ put 0 (searchedBytes r) (now (area .entry)) ⌝ }
+{
+    put_found(area, r);
     put_u32(area, 8, r.count as usize);
+}
+
+// The same with a count of 64 bits.
+pub fn put_within(area: &mut [u8], r: Answer)
+    requires { ⌜ (16 ≤ length (now area)) × (r .steps ≤ 80) ⌝ }
+    ensures { λ _. ⌜ now (area .exit) ≡ put 0 (withinBytes r) (now (area .entry)) ⌝ }
+{
+    put_found(area, r);
+    put_u64(area, 8, r.count);
 }

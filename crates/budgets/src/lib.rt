@@ -1,14 +1,24 @@
-// A budget from its decimal digits.
+// A budget from its decimal digits, or from the word `all`.
 ghost use mathlib.Core.Path.{_≡_};
-ghost use Rattle.budgets.specs.Digits.{budgetOf};
+ghost use Rattle.budgets.specs.Digits.{isAll, decimalOf, budgetOf};
 
 pub enum Budget {
-    Given(u32),
+    Given(u64),
     Bad,
 }
 
-pub fn budget_of(text: &[u8]) -> Budget
-    ensures { λ r. ⌜ r ≡ budgetOf (now (text .entry)) ⌝ }
+fn is_all(text: &[u8]) -> bool
+    ensures { λ r. ⌜ r ≡ isAll (now (text .entry)) ⌝ }
+{
+    if text.len() != 3 {
+        return false;
+    }
+    (text[0] == b'a') & (text[1] == b'l') & (text[2] == b'l')
+}
+
+// A digit that would bring the number above the largest is seen before it is added.
+fn decimal_of(text: &[u8]) -> Budget
+    ensures { λ r. ⌜ r ≡ decimalOf (now (text .entry)) ⌝ }
 {
     if text.len() == 0 {
         return Budget::Bad;
@@ -22,10 +32,20 @@ pub fn budget_of(text: &[u8]) -> Budget
         if b'9' < b {
             return Budget::Bad;
         }
-        n = 10 * n + (b - b'0') as u64;
-        if 4294967295 < n {
+        let d = (b - b'0') as u64;
+        if (u64::MAX - d) / 10 < n {
             return Budget::Bad;
         }
+        n = 10 * n + d;
     }
-    Budget::Given(n as u32)
+    Budget::Given(n)
+}
+
+pub fn budget_of(text: &[u8]) -> Budget
+    ensures { λ r. ⌜ r ≡ budgetOf (now (text .entry)) ⌝ }
+{
+    if is_all(text) {
+        return Budget::Given(u64::MAX);
+    }
+    decimal_of(text)
 }

@@ -1,20 +1,23 @@
 -- What a call returns and leaves in the area, by the tests that led there.
 -- Assumes nothing.
 use mathlib.Core.Path.{_≡_, ap, ap₂, _∙_}
+use mathlib.Core.Bool.{cond}
 use mathlib.Core.List.{List, _++_}
 use Prim.Native.Nat.{ℕ, _+_, _≤_, _<_}
 use native.Mathlib.Nat.{zero-add}
+use lib.Dec.{ltb}
 use lib.ListN.{length, drop}
 use borrow.Author.Tests.{lt-ltb, le-ltb, eq-eqb, ne-eqb}
 use Rattle.source.specs.declared.Program.{Program}
 use Rattle.machine.specs.declared.Machine.{Machine}
 use Rattle.search.specs.declared.Answer.{Answer}
-use Rattle.search.specs.Answers.{Searched}
+use Rattle.source.specs.File.{readFile}
+use Rattle.search.specs.Answers.{areaOn, tableOn, Searched, Within}
 use Rattle.values.specs.Lists.{put}
 use Rattle.program_value.specs.Value.{programOf}
 use Rattle.machine_value.specs.Value.{machineOf}
-use Rattle.answers_value.specs.Value.{searchedBytes}
-use Rattle.capi.specs.Calls.{Called, called, answered, onArea, onValue, SearchCalled, searchCalled, searchCall}
+use Rattle.answers_value.specs.Value.{searchedBytes, withinBytes}
+use Rattle.capi.specs.Calls.{Called, called, answered, onArea, onValue, SearchCalled, searchCalled, searchCall, WithinCalled, withinCalled, withinCall}
 
 -- ---- an area that is too short, and one with room
 pub short : (n : ℕ) (a : List ℕ) (on : Called) → length a < n → called 1 a ≡ onArea n a on
@@ -66,3 +69,20 @@ both t c = record { call = c; trace = t }
 pub search-answered : (f : List ℕ) (b : ℕ) (t t' a a' : List ℕ) (r : Answer) → 12 ≤ length a → Searched f b t r t' → a' ≡ put 0 (searchedBytes r) a → searchCalled 0 a' t' ≡ searchCall f b t a
 unfolding searchCall both
 search-answered f b t t' a a' r h s w = ap₂ both (s .lent ∙ rw (le-ltb _ _ h)) (answer-of-file 12 searchedBytes a a' r h w _ (s .answer))
+
+-- ---- the search within a table, which is lent that besides
+pub within-short : (f : List ℕ) (b : ℕ) (t k a : List ℕ) → length a < 16 → withinCalled 1 a t k ≡ withinCall f b t k a
+unfolding withinCall
+within-short f b t k a h = rw (lt-ltb _ _ h)
+
+all-three : List ℕ → List ℕ → Called → WithinCalled
+all-three t k c = record { call = c; trace = t; table = k }
+
+pub within-answered : (f : List ℕ) (b : ℕ) (t t' k k' a a' : List ℕ) (r : Answer) → 16 ≤ length a → Within f b t k r t' k' → a' ≡ put 0 (withinBytes r) a
+    → withinCalled 0 a' t' k' ≡ withinCall f b t k a
+unfolding withinCall all-three
+within-answered f b t t' k k' a a' r h s w =
+    let e : t' ≡ cond (ltb (length a) 16) t (areaOn (readFile f) b t) = s .searched .lent ∙ rw (le-ltb _ _ h) in
+    let g : k' ≡ cond (ltb (length a) 16) k (tableOn (readFile f) t k) = s .lent-table ∙ rw (le-ltb _ _ h) in
+    let c = answer-of-file 16 withinBytes a a' r h w _ (s .searched .answer) in
+    λ i. all-three (e i) (g i) (c i)

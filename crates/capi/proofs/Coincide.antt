@@ -4,7 +4,7 @@ use mathlib.Core.Path.{_≡_, sym, ap, _∙_}
 use mathlib.Core.List.{List}
 use Prim.Native.Nat.{ℕ}
 use Rattle.step.specs.Step.{Step}
-use Rattle.capi.specs.Calls.{Called, called, readCall, stepCall, certifyCall, replayCall, SearchCalled, searchCalled, searchCall}
+use Rattle.capi.specs.Calls.{Called, called, readCall, stepCall, certifyCall, replayCall, SearchCalled, searchCalled, searchCall, WithinCalled, withinCalled, withinCall}
 
 same : (n n' : ℕ) (a a' : List ℕ) (c : Called) → called n a ≡ c → called n' a' ≡ c → (n ≡ n') × (a ≡ a')
 same n n' a a' c e e' = (ap (λ (x : Called). x .number) (e ∙ sym e'), ap (λ (x : Called). x .area) (e ∙ sym e'))
@@ -28,4 +28,13 @@ module _ (n n' : ℕ) (a a' area : List ℕ) where
       let c = searchCall file budget trace area in (
         same n n' a a' (c .call) (ap (λ (x : SearchCalled). x .call) e) (ap (λ (x : SearchCalled). x .call) e'),
         ap (λ (x : SearchCalled). x .trace) (e ∙ sym e'),
+      )
+
+  pub within-coincide : (file : List ℕ) (budget : ℕ) (t t' trace k k' table : List ℕ) → withinCalled n a t k ≡ withinCall file budget trace table area
+      → withinCalled n' a' t' k' ≡ withinCall file budget trace table area → ((n ≡ n') × (a ≡ a')) × (t ≡ t') × (k ≡ k')
+  within-coincide file budget t t' trace k k' table e e' =
+      let c = withinCall file budget trace table area in (
+        same n n' a a' (c .call) (ap (λ (x : WithinCalled). x .call) e) (ap (λ (x : WithinCalled). x .call) e'),
+        ap (λ (x : WithinCalled). x .trace) (e ∙ sym e'),
+        ap (λ (x : WithinCalled). x .table) (e ∙ sym e'),
       )

@@ -11,10 +11,10 @@ use Rattle.certify.specs.Answers.{certification}
 use Rattle.step.specs.Step.{Step, step}
 use Rattle.step.specs.Answers.{stepped}
 use Rattle.replay.specs.Answers.{replay}
-use Rattle.search.specs.Answers.{answerOn, areaOn}
+use Rattle.search.specs.Answers.{answerOn, areaOn, tableOn}
 use Rattle.program_value.specs.Value.{programOf}
 use Rattle.machine_value.specs.Value.{machineOf}
-use Rattle.answers_value.specs.Value.{readBytes, steppedBytes, certifiedBytes, replayedBytes, searchedBytes}
+use Rattle.answers_value.specs.Value.{readBytes, steppedBytes, certifiedBytes, replayedBytes, searchedBytes, withinBytes}
 
 -- the number that a call returns, and the area after it
 pub record Called : Type 0 where
@@ -71,4 +71,22 @@ searchCall file budget trace area =
     record {
       call = onArea 12 area (answered (searchedBytes (answerOn (readFile file) budget trace)) area);
       trace = cond (ltb (length area) 12) trace (areaOn (readFile file) budget trace);
+    }
+
+-- the same of the search within a table, and the table after it
+pub record WithinCalled : Type 0 where
+  pub call : Called
+  pub trace : List ℕ
+  pub table : List ℕ
+
+abbrev pub withinCalled : ℕ → List ℕ → List ℕ → List ℕ → WithinCalled
+withinCalled n area trace table = record { call = called n area; trace = trace; table = table }
+
+-- an answer area that is too short: nothing is written in any area
+unfoldable pub withinCall : List ℕ → ℕ → List ℕ → List ℕ → List ℕ → WithinCalled
+withinCall file budget trace table area =
+    record {
+      call = onArea 16 area (answered (withinBytes (answerOn (readFile file) budget trace)) area);
+      trace = cond (ltb (length area) 16) trace (areaOn (readFile file) budget trace);
+      table = cond (ltb (length area) 16) table (tableOn (readFile file) trace table);
     }

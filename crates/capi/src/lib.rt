@@ -2,18 +2,20 @@
 // answer area is shorter than the answer; 2 where a program or machine value has another length than stated. On 1 and 2 nothing
 // is written; otherwise exactly the answer's bytes, and by the search the trace that it found.
 ghost use mathlib.Core.Path.{_≡_};
-ghost use Rattle.capi.specs.Calls.{called, readCall, stepCall, certifyCall, replayCall, searchCalled, searchCall};
+ghost use Rattle.capi.specs.Calls.{called, readCall, stepCall, certifyCall, replayCall, searchCalled, searchCall, withinCalled, withinCall};
 use answers_value::put_certified;
 use answers_value::put_read;
 use answers_value::put_replayed;
 use answers_value::put_searched;
 use answers_value::put_stepped;
+use answers_value::put_within;
 use certify::certify;
 use machine_value::machine_of;
 use program::read;
 use program_value::program_of;
 use replay::replay;
 use search::search;
+use search::search_within;
 use step::TraceStep;
 use step::step;
 
@@ -113,5 +115,23 @@ pub extern "C" fn blyskota_search(
         return 1;
     }
     put_searched(answer, search(file, budget, area));
+    0
+}
+
+// The same with a budget and a count of 64 bits, and a table that is lent to it besides, of any length; 16 bytes.
+#[no_mangle]
+pub extern "C" fn blyskota_search_within(
+    file: &[u8],
+    budget: u64,
+    area: &mut [u8],
+    table: &mut [u8],
+    answer: &mut [u8],
+) -> u32
+    ensures { λ r. ⌜ withinCalled r (now (answer .exit)) (now (area .exit)) (now (table .exit)) ≡ withinCall (now (file .entry)) budget (now (area .entry)) (now (table .entry)) (now (answer .entry)) ⌝ }
+{
+    if answer.len() < 16 {
+        return 1;
+    }
+    put_within(answer, search_within(file, budget, area, table));
     0
 }

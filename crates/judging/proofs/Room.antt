@@ -14,7 +14,7 @@ use Rattle.sequences.specs.Answer as sequences
 use Rattle.listing.specs.Listing.{answerTo}
 use Rattle.search.specs.declared.Answer.{Answer}
 use Rattle.search.specs.Answers.{answerOf, areaOf, refusal, answerOn, areaOn, Searched}
-use Rattle.visits.proofs.Telling.{trace-length}
+use Rattle.arrivals.proofs.Telling.{trace-length}
 
 on-program : (a : sequences.Answer Step) (area : List ℕ) → 6 * (answerOf a) .steps ≤ length (areaOf a area)
 on-program (sequences.allowed n q) area =

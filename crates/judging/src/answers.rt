@@ -8,7 +8,7 @@ use rows::text;
 use search::Answer;
 use search::Verdict;
 
-fn verdict(name: &[u8], n: u32) {
+fn verdict(name: &[u8], n: u64) {
     text(b"verdict ");
     text(name);
     text(b"\ncount");

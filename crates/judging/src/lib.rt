@@ -13,9 +13,10 @@ fn complain(what: &[u8]) {
     io::write_all(STDERR_FILENO, b"\n");
 }
 
-fn judge_file(file: &[u8], budget: u32) {
+fn judge_file(file: &[u8], budget: u64) {
     let mut area = [0u8; 480];
-    let a = search::search(file, budget, &mut area);
+    let mut table = table::empty();
+    let a = search::search_within(file, budget, &mut area, &mut table);
     answer(a, &area);
 }
 
@@ -26,7 +27,7 @@ fn at_end() -> bool {
 }
 
 // Reads at most 4,096 bytes: a longer input has the same answer as its first 4,096 bytes (`long-answer`, proofs/Long.antt).
-fn judge_input(budget: u32) {
+fn judge_input(budget: u64) {
     let mut file = io::buffer();
     let n = io::read_full(STDIN_FILENO, &mut file);
     if n < 4096 {
@@ -53,6 +54,8 @@ pub fn judge() {
     let len = os::arg(1, &mut text);
     match budget_of(&text[..len]) {
         Budget::Given(budget) => judge_input(budget),
-        Budget::Bad => complain(b"the budget is a decimal number from 0 to 4294967295"),
+        Budget::Bad => complain(
+            b"the budget is a decimal number from 0 to 18446744073709551615, or all",
+        ),
     }
 }

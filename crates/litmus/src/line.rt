@@ -41,7 +41,7 @@ fn beside(published: &[u8], verdict: &[u8]) -> Came {
     Came::Differs
 }
 
-fn found(published: &[u8], verdict: &[u8], n: u32) -> Came {
+fn found(published: &[u8], verdict: &[u8], n: u64) -> Came {
     text(b" ");
     text(verdict);
     count(b' ', n as usize);
@@ -57,13 +57,14 @@ fn refused(published: &[u8], refusal: u8, place: usize) -> Came {
 }
 
 // The file is the first n bytes.
-fn judged(name: &[u8], budget: u32, published: &[u8], file: &[u8], n: usize) -> Came {
+fn judged(name: &[u8], budget: u64, published: &[u8], file: &[u8], n: usize) -> Came {
     if file.len() < n {
         return unread(name);
     }
     text(name);
     let mut area = [0u8; 480];
-    let a = search::search(&file[0..n], budget, &mut area);
+    let mut table = table::empty();
+    let a = search::search_within(&file[0..n], budget, &mut area, &mut table);
     let v = a.verdict;
     match v {
         Verdict::Allowed => found(published, b"allowed", a.count),
@@ -73,7 +74,7 @@ fn judged(name: &[u8], budget: u32, published: &[u8], file: &[u8], n: usize) -> 
     }
 }
 
-fn with_file(name: &[u8], budget: u32, published: &[u8], f: File) -> Came {
+fn with_file(name: &[u8], budget: u64, published: &[u8], f: File) -> Came {
     if readable(f) {
         let b = f.bytes;
         return judged(name, budget, published, &b, f.len);
@@ -82,7 +83,7 @@ fn with_file(name: &[u8], budget: u32, published: &[u8], f: File) -> Came {
 }
 
 // The line from the published verdict on.
-fn with_budget(name: &[u8], budget: u32, s: &[u8]) -> Came {
+fn with_budget(name: &[u8], budget: u64, s: &[u8]) -> Came {
     let space = find(s, 0, b' ');
     if space == s.len() {
         return unread(name);

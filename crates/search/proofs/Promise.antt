@@ -21,14 +21,25 @@ use Rattle.step.specs.Trace.{traceBytes}
 use Rattle.replay.specs.Answers.{replay}
 use Rattle.listing.specs.Listing.{stepping, answerTo}
 use Rattle.listing.proofs.Meaning.{demand-3, more-budget-allowed, more-budget-forbidden}
-use Rattle.visits.proofs.Telling.{trace-length}
-use Rattle.search.specs.Answers.{Verdict, Allowed, Forbidden, NotFinished, Answer, answerOf, areaOf, refusal, answerOn, areaOn, Searched}
+use Rattle.arrivals.proofs.Telling.{trace-length}
+use Rattle.search.specs.Answers.{Verdict, Allowed, Forbidden, NotFinished, Answer, answerOf, areaOf, refusal, answerOn, areaOn, Searched, Within}
 use Rattle.search.proofs.Told.{size-small}
 use Rattle.search.proofs.Found.{found-short, found-replays}
 
 -- answers that meet the contract coincide, lent memory included
 pub search-coincide : (f : List ℕ) (b : ℕ) (area : List ℕ) (r r' : Answer) (after after' : List ℕ) → Searched f b area r after → Searched f b area r' after' → (r ≡ r') × (after ≡ after')
 search-coincide f b area r r' after after' s s' = (s .answer ∙ sym (s' .answer), s .lent ∙ sym (s' .lent))
+
+-- the same of a search within a table, which is lent memory too
+pub within-coincide : (f : List ℕ) (b : ℕ) (area table : List ℕ) (r r' : Answer) (after after' tableAfter tableAfter' : List ℕ) → Within f b area table r after tableAfter → Within f b area table r' after' tableAfter'
+    → (r ≡ r') × (after ≡ after') × (tableAfter ≡ tableAfter')
+within-coincide f b area table r r' after after' k k' w w' =
+    let s = search-coincide f b area r r' after after' (w .searched) (w' .searched) in
+    (s .0, s .1, w .lent-table ∙ sym (w' .lent-table))
+
+-- whatever the tables are, and where there is none: the same answer and area
+pub same-within : (f : List ℕ) (b : ℕ) (area table : List ℕ) (r r' : Answer) (after after' tableAfter : List ℕ) → Within f b area table r after tableAfter → Searched f b area r' after' → (r ≡ r') × (after ≡ after')
+same-within f b area table r r' after after' k w s = search-coincide f b area r r' after after' (w .searched) s
 
 -- ---- where nothing is refused
 module _ {f : List ℕ} {p : Program} (good : readFile f ≡ program p) {area : List ℕ} (long : 480 ≤ length area) {b : ℕ} {r : Answer} {after : List ℕ} (s : Searched f b area r after) where

@@ -5,7 +5,7 @@ use mathlib.Core.List.{List, _++_}
 use Prim.Native.Nat.{ℕ, zero, suc, _+_, _-_, _*_, _≤_, _<_}
 use native.Mathlib.Omega.{arith}
 use lib.Dec.{T}
-use lib.ListN.{length, drop}
+use lib.ListN.{length, drop, replicate}
 use borrow.Author.Tests.{lt-ltb, le-ltb}
 use Rattle.source.specs.declared.FileRead.{FileRead}
 use Rattle.source.specs.declared.Program.{Program}
@@ -30,13 +30,15 @@ use Rattle.step.proofs.Bound.{potential-fresh}
 use Rattle.step.proofs.Kept.{fresh-formed}
 use Rattle.replay.proofs.Files.{read-good, read-refused}
 use Rattle.listing.specs.Listing.{stepping, sequencesOf, answerTo}
-use Rattle.search.specs.Answers.{Allowed, Forbidden, NotFinished, Answer, answerOf, areaOf, refusal, answerOn, areaOn, Answers, Searched}
-use Rattle.visits.specs.declared.Ran.{Ran}
-use Rattle.visits.specs.declared.Ran.the-variants.{Going, Found, Out}
-use Rattle.visits.specs.Visits.{visiting, Tells, Ready}
+use Rattle.search.specs.Answers.{Allowed, Forbidden, NotFinished, Answer, answerOf, areaOf, refusal, answerOn, areaOn, Answers, Within, cleared, tableOn}
+use Rattle.table.specs.Table.{Holds}
+use Rattle.table.proofs.Laws.{holds-cleared}
+use Rattle.arrivals.specs.declared.Ran.{Ran}
+use Rattle.arrivals.specs.declared.Ran.the-variants.{Going, Found, Out}
+use Rattle.arrivals.specs.Visits.{visiting, Tells, Ready, Known}
 use Rattle.listing.proofs.Machine.{lawful}
-use Rattle.visits.proofs.Parts.{visiting-is}
-use Rattle.visits.proofs.Telling.{trace-length}
+use Rattle.arrivals.proofs.Parts.{visiting-is}
+use Rattle.arrivals.proofs.Telling.{trace-length}
 
 -- ---- the room for every trace
 sixteen-each : (n : ℕ) → sumBelow (λ i. 16) n ≡ 16 * n
@@ -61,6 +63,10 @@ ready-fresh p area h l =
       well = record { program-formed = h; machine-formed = fresh-formed p h };
       room = let e = potential-fresh p in let s = size-small p h in omega arith;
     }
+
+-- a cleared table says nothing
+pub cleared-holds : (p : Program) (n : ℕ) (t : List ℕ) → t ≡ replicate n 0 → Holds (Known p) t
+cleared-holds p n t e = subst (Holds (Known p)) (sym e) (holds-cleared (Known p) n)
 
 -- ---- the search from the fresh machine gives the answer
 told-answer : (p : Program) (b : ℕ) → told b (visiting p fresh b) ≡ answerTo p b
@@ -135,18 +141,21 @@ module _ (p : Program) (b : ℕ) (r : Ran) (old new : List ℕ) (t : Tells 0 (vi
 pub file-formed : (f : List ℕ) (r : FileRead) → r ≡ fileRead (readFile f) → r .answer ≡ reading.Good → T (programTest (r .program))
 file-formed f r e h = read-formed f (r .program) (read-good f r e h)
 
-module _ (f : List ℕ) (b : ℕ) (area : List ℕ) (r : FileRead) (e : r ≡ fileRead (readFile f)) where
-  pub area-short : r .answer ≡ reading.Good → length area < 480 → (a : Answer) → a ≡ refusal 30 0 → Searched f b area a area
-  area-short h l a q =
-      let g = read-good f r e h in
-      record { answer = q ∙ sym (ap (λ (y : FileAnswer). answerOn y b area) g ∙ rw (lt-ltb (length area) 480 l)); lent = sym (ap (λ (y : FileAnswer). areaOn y b area) g ∙ rw (lt-ltb (length area) 480 l)) }
+module _ (f : List ℕ) (b : ℕ) (area table : List ℕ) (r : FileRead) (e : r ≡ fileRead (readFile f)) where
+  -- what a search answers and leaves, where the file is read as y
+  told-on : (y : FileAnswer) → readFile f ≡ y → (a : Answer) (new table' : List ℕ) → a ≡ answerOn y b area → new ≡ areaOn y b area → table' ≡ tableOn y area table → Within f b area table a new table'
+  told-on y g a new table' answer lent lent-table =
+      record {
+        searched = record { answer = answer ∙ sym (ap (λ (z : FileAnswer). answerOn z b area) g); lent = lent ∙ sym (ap (λ (z : FileAnswer). areaOn z b area) g) };
+        lent-table = lent-table ∙ sym (ap (λ (z : FileAnswer). tableOn z area table) g);
+      }
 
-  pub area-long : r .answer ≡ reading.Good → 480 ≤ length area → (a : Answer) (new : List ℕ) → Answers (r .program) b a area new → Searched f b area a new
-  area-long h l a new q =
-      let g = read-good f r e h in
-      record { answer = q .answer ∙ sym (ap (λ (y : FileAnswer). answerOn y b area) g ∙ rw (le-ltb (length area) 480 l)); lent = q .lent ∙ sym (ap (λ (y : FileAnswer). areaOn y b area) g ∙ rw (le-ltb (length area) 480 l)) }
+  pub area-short : r .answer ≡ reading.Good → length area < 480 → (a : Answer) → a ≡ refusal 30 0 → Within f b area table a area table
+  area-short h l a q = told-on _ (read-good f r e h) a area table (q ∙ rw (lt-ltb (length area) 480 l)) (rw (lt-ltb (length area) 480 l)) (rw (lt-ltb (length area) 480 l))
 
-  pub file-refused : (n place : ℕ) → r .answer ≡ reading.Refused n place → (a : Answer) → a ≡ refusal n place → Searched f b area a area
-  file-refused n place h a q =
-      let g = read-refused f r e n place h .0 in
-      record { answer = q ∙ sym (ap (λ (y : FileAnswer). answerOn y b area) g); lent = sym (ap (λ (y : FileAnswer). areaOn y b area) g) }
+  pub area-long : r .answer ≡ reading.Good → 480 ≤ length area → (a : Answer) (new table' : List ℕ) → Answers (r .program) b a area new → table' ≡ cleared table → Within f b area table a new table'
+  area-long h l a new table' q c =
+      told-on _ (read-good f r e h) a new table' (q .answer ∙ rw (le-ltb (length area) 480 l)) (q .lent ∙ rw (le-ltb (length area) 480 l)) (c ∙ rw (le-ltb (length area) 480 l))
+
+  pub file-refused : (n place : ℕ) → r .answer ≡ reading.Refused n place → (a : Answer) → a ≡ refusal n place → Within f b area table a area table
+  file-refused n place h a q = told-on _ (read-refused f r e n place h .0) a area table q refl refl

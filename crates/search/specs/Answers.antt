@@ -5,7 +5,7 @@ use mathlib.Core.Bool.{cond}
 use mathlib.Core.List.{List, _++_}
 use Prim.Native.Nat.{ℕ, _*_}
 use lib.Dec.{ltb}
-use lib.ListN.{length, drop}
+use lib.ListN.{length, drop, replicate}
 use Rattle.source.specs.declared.Program.{Program}
 use Rattle.source.specs.File.{FileAnswer, refused, program, readFile}
 use Rattle.step.specs.Step.{Step}
@@ -50,3 +50,17 @@ areaOn (program p) b area = cond (ltb (length area) 480) area (areaOf (answerTo 
 pub record Searched (file : List ℕ) (b : ℕ) (area : List ℕ) (r : Answer) (after : List ℕ) : Type 0 where
   pub answer : r ≡ answerOn (readFile file) b area
   pub lent : after ≡ areaOn (readFile file) b area
+
+-- a table that was lent, all 0
+abbrev pub cleared : List ℕ → List ℕ
+cleared t = replicate (length t) 0
+
+-- a refused search leaves the lent table unwritten, any other all 0
+abbrev pub tableOn : FileAnswer → List ℕ → List ℕ → List ℕ
+tableOn (refused number place) area table = table
+tableOn (program p) area table = cond (ltb (length area) 480) table (cleared table)
+
+-- THE SEARCH WITHIN A TABLE that is lent besides: whatever it is, answer and area are those of the search
+pub record Within (file : List ℕ) (b : ℕ) (area table : List ℕ) (r : Answer) (after tableAfter : List ℕ) : Type 0 where
+  pub searched : Searched file b area r after
+  pub lent-table : tableAfter ≡ tableOn (readFile file) area table

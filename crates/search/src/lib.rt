@@ -4,12 +4,13 @@ ghost use Prim.Native.Nat.{_≤_};
 ghost use lib.Dec.{T};
 ghost use lib.ListN.{length};
 ghost use Rattle.source.specs.WellFormed.{programTest};
-ghost use Rattle.search.specs.Answers.{refusal, Answers, Searched};
+ghost use Rattle.search.specs.Answers.{refusal, Answers, Searched, Within, cleared};
+use arrivals::Ran;
 use machine::machines::fresh;
 use program::ReadAnswer;
 use program::read;
 use source::Program;
-use visits::Ran;
+use table::clear;
 use visits::visit;
 
 // A refusal has its number and place.
@@ -23,7 +24,7 @@ pub enum Verdict {
 // The count is the place of the sequence found, or the number of all, or the budget; the steps are those of the trace, 0 unless allowed.
 pub struct Answer {
     pub verdict: Verdict,
-    pub count: u32,
+    pub count: u64,
     pub steps: usize,
 }
 
@@ -37,12 +38,15 @@ fn refusal(number: u8, place: usize) -> Answer
     }
 }
 
-// The search on a program that is well formed, with an area that has room for every trace.
-fn search_program(p: Program, budget: u32, area: &mut [u8]) -> Answer
+// The search on a program that is well formed, with an area that has room for every trace. The table may hold anything before.
+fn search_program(p: Program, budget: u64, area: &mut [u8], table: &mut [u8]) -> Answer
     requires { ⌜ T (programTest p) × (480 ≤ length (now area)) ⌝ }
-    ensures { λ r. ⌜ Answers p budget r (now (area .entry)) (now (area .exit)) ⌝ }
+    ensures { λ r. ⌜ Answers p budget r (now (area .entry)) (now (area .exit)) × (now (table .exit) ≡ cleared (now (table .entry))) ⌝ }
 {
-    match visit(p, fresh(), 0, budget, area) {
+    clear(table);
+    let ran = visit(p, fresh(), 0, budget, area, table);
+    clear(table);
+    match ran {
         Ran::Going(b) => Answer {
             verdict: Verdict::Forbidden,
             count: budget - b,
@@ -61,8 +65,10 @@ fn search_program(p: Program, budget: u32, area: &mut [u8]) -> Answer
     }
 }
 
-pub fn search(file: &[u8], budget: u32, area: &mut [u8]) -> Answer
-    ensures { λ r. ⌜ Searched (now (file .entry)) budget (now (area .entry)) r (now (area .exit)) ⌝ }
+// The search with a table that is lent to it, of any length: the same answer, the sooner the longer the table. A refused search
+// leaves the table as it was, any other leaves it all 0.
+pub fn search_within(file: &[u8], budget: u64, area: &mut [u8], table: &mut [u8]) -> Answer
+    ensures { λ r. ⌜ Within (now (file .entry)) budget (now (area .entry)) (now (table .entry)) r (now (area .exit)) (now (table .exit)) ⌝ }
 {
     let f = read(file);
     let answer = f.answer;
@@ -71,8 +77,16 @@ pub fn search(file: &[u8], budget: u32, area: &mut [u8]) -> Answer
             if area.len() < 480 {
                 return refusal(30, 0);
             }
-            search_program(f.program, budget, area)
+            search_program(f.program, budget, area, table)
         }
         ReadAnswer::Refused(number, place) => refusal(number, place),
     }
+}
+
+// The search of document 01: without a table, and with a budget of 32 bits.
+pub fn search(file: &[u8], budget: u32, area: &mut [u8]) -> Answer
+    ensures { λ r. ⌜ Searched (now (file .entry)) budget (now (area .entry)) r (now (area .exit)) ⌝ }
+{
+    let mut none = [0u8; 0];
+    search_within(file, budget as u64, area, &mut none)
 }

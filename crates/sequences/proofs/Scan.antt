@@ -11,6 +11,7 @@ use borrow.Author.Tests.{lt-ltb, le-ltb}
 use Rattle.sequences.specs.Stepping.{Stepping}
 use Rattle.sequences.specs.Sequences.{Among, run, wanted, begun, branches, upto}
 use Rattle.sequences.specs.Lawful.{Lawful}
+use Rattle.sequences.specs.Demand.{NoneWanted}
 use Rattle.sequences.specs.Answer.{Answer, allowed, forbidden, unfinished, visit, answer}
 use Rattle.sequences.proofs.Listed.{run-step, upto-sound, short, sequences-step}
 
@@ -113,6 +114,36 @@ module _ {A : Type 0} where
       go : (t : Bool) → leftOf (scan g l b) ≤ b → leftOf (elim t [ true ↦ found b q | false ↦ scan g l b ]) ≤ suc b
       go true h = omega arith
       go false h = omega arith
+
+-- ---- a search through a list none of which is wanted
+module _ {A : Type 0} (g : List A → Bool) where
+  pub scan-all : (l : List (List A)) (b : ℕ) → NoneWanted g l → length l ≤ b → scan g l b ≡ going (b - length l)
+  unfolding scan
+  scan-all [] b unwanted h = ap going (omega arith)
+  scan-all (q ∷ l) zero unwanted h = absurd (omega arith)
+  scan-all (q ∷ l) (suc b) unwanted h = rw (unwanted q (inl refl), scan) (scan-all l b (λ r i. unwanted r (inr i)) (omega arith) ∙ ap going (omega arith))
+
+  pub scan-spent : (l : List (List A)) (b : ℕ) → NoneWanted g l → b < length l → scan g l b ≡ out
+  unfolding scan
+  scan-spent [] b unwanted h = absurd (omega arith)
+  scan-spent (q ∷ l) zero unwanted h = refl
+  scan-spent (q ∷ l) (suc b) unwanted h = rw (unwanted q (inl refl), scan) (scan-spent l b (λ r i. unwanted r (inr i)) (omega arith))
+
+  -- a search that goes on has met none that is wanted, and has paid for each
+  pub scan-went : (l : List (List A)) (b c : ℕ) → scan g l b ≡ going c → NoneWanted g l × (c + length l ≡ b)
+  unfolding scan
+  scan-went [] b c e = (λ r i. absurd i, (let same : b ≡ c = cc in omega arith))
+  scan-went (q ∷ l) zero c e = absurd (let z : _≡_ {A = ℕ} 0 1 = cc in omega arith)
+  scan-went (q ∷ l) (suc b) c e = go (g q) refl e (λ i. scan-went l b c i)
+    where
+      none-of : g q ≡ false → NoneWanted g l → NoneWanted g (q ∷ l)
+      none-of d unwanted r (inl i) = ap g i ∙ d
+      none-of d unwanted r (inr i) = unwanted r i
+
+      go : (t : Bool) → g q ≡ t → _≡_ {A = Scan A} (elim t [ true ↦ found b q | false ↦ scan g l b ]) (going c) → (scan g l b ≡ going c → NoneWanted g l × (c + length l ≡ b))
+          → NoneWanted g (q ∷ l) × (c + length (q ∷ l) ≡ suc b)
+      go true d i rec = absurd (let z : _≡_ {A = ℕ} 0 1 = cc in omega arith)
+      go false d i rec = let r = rec i in let n = r .1 in (none-of d (r .0), omega arith)
 
 -- the sequences that begin with steps of two lists are those of the first and then those of the second
 branches-append : (M : Stepping) (f : M .State → List (List (M .Step))) (s : M .State) (ks ls : List (M .Step))

@@ -31,12 +31,14 @@ use Rattle.step.specs.Trace.{stepBytes}
 use Rattle.step.proofs.Bound.{potential, lowers}
 use Rattle.step.proofs.Kept.{kept}
 use Rattle.listing.proofs.Keys.{keyPromise}
-use Rattle.visits.specs.Visits.{Ran, Going, Found, Out, visiting, Tells, Ready}
+use Rattle.arrivals.specs.declared.Ran.{Ran}
+use Rattle.arrivals.specs.declared.Ran.the-variants.{Going, Found, Out}
+use Rattle.arrivals.specs.Visits.{visiting, Tells, Ready}
 use Rattle.tries.specs.Steps.{NextOpen, stepAt, Numbered, Next}
 use Rattle.tries.specs.declared.Attempts.{Attempts}
 use Rattle.tries.specs.Worthwhile.{Worth}
 use Rattle.visits.proofs.InPlace.{set-again, set-back}
-use Rattle.visits.proofs.Turns.{BeforeThread, BeforeStep, begins, all-done, to-next, first-try, thread-done, to-open, refused-on, went-below, out-below, found-below, has-thread, not-asked}
+use Rattle.arrivals.proofs.Turns.{BeforeThread, BeforeStep, begins, all-done, to-next, first-try, thread-done, to-open, refused-on, went-below, out-below, found-below, has-thread, not-asked}
 
 -- y is x but for thread i and the memory
 abbrev Others : Machine → ℕ → Machine → Type 0

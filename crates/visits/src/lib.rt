@@ -2,31 +2,25 @@
 ghost use mathlib.Core.Path.{_≡_};
 ghost use Prim.Native.Nat.{_+_, _≤_};
 ghost use lib.ListN.{length};
-ghost use Rattle.machine.specs.WellFormed.{Formed};
-ghost use Rattle.step.specs.Outcome.{asked};
 ghost use Rattle.step.specs.Trace.{stepBytes};
+ghost use Rattle.table.specs.Table.{Holds};
 ghost use Rattle.values.specs.Lists.{put};
-ghost use Rattle.visits.specs.Visits.{visiting, atEnd, Tells, Ready};
-use ending::complete;
-use ending::question_holds;
+ghost use Rattle.arrivals.specs.Visits.{visiting, Tells, Ready, Known, Opens};
+use arrivals::Arrival;
+use arrivals::Ran;
+use arrivals::arrive;
 use machine::Machine;
 use source::Program;
 use step::StepAnswer;
 use step::TraceStep;
 use step::memory_after;
+use table::SLOT;
+use table::keep;
 use tries::attempt;
 use tries::next_try;
 use tries::step_at;
 use tries::threads::next_open;
 use tries::tries_of;
-
-// How far a visit has come: on, with so much of the budget left; at a wanted sequence of so many steps, with so much left; or
-// at a sequence with nothing left.
-pub enum Ran {
-    Going(u32),
-    Found(u32, usize),
-    Out,
-}
 
 // The six bytes of step k, at a place.
 fn put_step(area: &mut [u8], at: usize, k: TraceStep)
@@ -41,37 +35,27 @@ fn put_step(area: &mut [u8], at: usize, k: TraceStep)
     area[at + 5] = k.b;
 }
 
-// A state with all threads at their end: nothing follows it. The two parts of `asked` are called by themselves: together they
-// are too long for the compiler to put here, and a call would copy program and machine.
-fn at_end(p: Program, x: Machine, depth: usize, rest: u32) -> Ran
-    requires { ⌜ Formed p x ⌝ }
-    ensures { λ r. ⌜ r ≡ atEnd depth rest (asked p x) ⌝ }
+// Visits x and each state that an accepted step leads to: threads ascending, from the first that is not at its end; within one,
+// executions by time, then promises by location, then value. A refused step costs nothing. y is x but for the memory and for the
+// thread whose turn it is: a copy of the machine for each step would cost more than the step. Where all of it goes on, x is written
+// into the table.
+fn walk(
+    p: Program,
+    x: Machine,
+    first: u8,
+    slot: usize,
+    depth: usize,
+    left: u64,
+    area: &mut [u8],
+    table: &mut [u8],
+) -> Ran
+    requires { ⌜ Ready p x depth (now area) × Opens p x left (now table) first slot × Holds (Known p) (now table) ⌝ }
+    ensures { λ r. ⌜ Tells depth (visiting p x left) r (now (area .entry)) (now (area .exit)) × Holds (Known p) (now (table .exit)) ⌝ }
 {
-    if complete(p, x) {
-        if question_holds(p, x) {
-            return Ran::Found(rest, depth);
-        }
-    }
-    Ran::Going(rest)
-}
-
-// Visits x, to which `depth` steps have led, and then each state that an accepted step leads to: threads ascending; within
-// one, executions by time, then promises by location, then value. A refused step costs nothing. y is x but for the memory and
-// for the thread whose turn it is: a copy of the machine for each step would cost more than the step.
-pub fn visit(p: Program, x: Machine, depth: usize, left: u32, area: &mut [u8]) -> Ran
-    requires { ⌜ Ready p x depth (now area) ⌝ }
-    ensures { λ r. ⌜ Tells depth (visiting p x left) r (now (area .entry)) (now (area .exit)) ⌝ }
-{
-    if left == 0 {
-        return Ran::Out;
-    }
-    let mut i = next_open(p, x, 0);
-    if i == 4 {
-        return at_end(p, x, depth, left - 1);
-    }
     let m = x.memory;
     let mut y = x;
     let mut rest = left - 1;
+    let mut i = first;
     while i < 4 {
         let c = p.codes[i as usize];
         let s = x.threads[i as usize];
@@ -86,7 +70,11 @@ pub fn visit(p: Program, x: Machine, depth: usize, left: u32, area: &mut [u8]) -
                 y.memory = memory_after(m, step);
                 let q = r.thread;
                 y.threads[i as usize] = q;
-                match visit(p, y, depth + 1, rest, area) {
+                let ran = match arrive(p, y, depth + 1, rest, table) {
+                    Arrival::Over(o) => o,
+                    Arrival::Open(f, l) => walk(p, y, f, l, depth + 1, rest, area, table),
+                };
+                match ran {
                     Ran::Going(b) => rest = b,
                     Ran::Found(b, n) => {
                         put_step(area, depth * 6, step);
@@ -100,5 +88,27 @@ pub fn visit(p: Program, x: Machine, depth: usize, left: u32, area: &mut [u8]) -
         y.threads[i as usize] = s;
         i = next_open(p, x, i + 1);
     }
+    if table.len() < SLOT {
+        return Ran::Going(rest);
+    }
+    keep(table, slot, x, left - rest);
     Ran::Going(rest)
+}
+
+// The search from x, to which `depth` steps have led. A table without a slot is asked nothing: every machine is visited.
+pub fn visit(
+    p: Program,
+    x: Machine,
+    depth: usize,
+    left: u64,
+    area: &mut [u8],
+    table: &mut [u8],
+) -> Ran
+    requires { ⌜ Ready p x depth (now area) × Holds (Known p) (now table) ⌝ }
+    ensures { λ r. ⌜ Tells depth (visiting p x left) r (now (area .entry)) (now (area .exit)) × Holds (Known p) (now (table .exit)) ⌝ }
+{
+    match arrive(p, x, depth, left, table) {
+        Arrival::Over(ran) => ran,
+        Arrival::Open(first, slot) => walk(p, x, first, slot, depth, left, area, table),
+    }
 }

@@ -1,4 +1,4 @@
-//! The five C calls on slices. Each gives 0, 1 where the answer area is shorter than the answer, or
+//! The six C calls on slices. Each gives 0, 1 where the answer area is shorter than the answer, or
 //! 2 where a program or machine value has another length than stated; on 1 and 2 nothing is written.
 //! This is the only unsafe code: a slice passes as its pointer and its length.
 
@@ -45,6 +45,17 @@ mod c {
             budget: u32,
             area: *mut u8,
             area_length: usize,
+            answer: *mut u8,
+            answer_length: usize,
+        ) -> u32;
+        pub fn blyskota_search_within(
+            file: *const u8,
+            file_length: usize,
+            budget: u64,
+            area: *mut u8,
+            area_length: usize,
+            table: *mut u8,
+            table_length: usize,
             answer: *mut u8,
             answer_length: usize,
         ) -> u32;
@@ -114,6 +125,23 @@ pub fn search(file: &[u8], budget: u32, area: &mut [u8], answer: &mut [u8]) -> u
             budget,
             area.as_mut_ptr(),
             area.len(),
+            answer.as_mut_ptr(),
+            answer.len(),
+        )
+    }
+}
+
+pub fn search_within(file: &[u8], budget: u64, area: &mut [u8], table: &mut [u8], answer: &mut [u8]) -> u32 {
+    // SAFETY: the pointers are of live slices with these lengths, three of them lent mutably and apart.
+    unsafe {
+        c::blyskota_search_within(
+            file.as_ptr(),
+            file.len(),
+            budget,
+            area.as_mut_ptr(),
+            area.len(),
+            table.as_mut_ptr(),
+            table.len(),
             answer.as_mut_ptr(),
             answer.len(),
         )

@@ -20,7 +20,7 @@ mod search;
 pub use machine::{Machine, Message, Thread};
 pub use refusal::{Refused, Why};
 pub use replay::{replay, File, ReplayRefused, Replayed};
-pub use search::{search, Answer};
+pub use search::{search, search_within, Answer, TABLE};
 
 /// Bytes of a program value.
 pub const PROGRAM: usize = 487;

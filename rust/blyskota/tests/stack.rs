@@ -1,6 +1,6 @@
 //! The deepest search on a small stack: a visit calls itself once for each step of a sequence.
 
-use blyskota::{search, Answer};
+use blyskota::{search_within, Answer, TABLE};
 
 /// Bytes of stack that every search finds enough.
 const STACK: usize = 256 * 1024;
@@ -22,21 +22,27 @@ fn longest(value: u8) -> Vec<u8> {
     file
 }
 
-fn on_a_small_stack(file: Vec<u8>) -> Answer {
-    let run = move || search(&file, 100_000).expect("a good file");
+/// The answer with a table of so many bytes, which are not on the stack.
+fn on_a_small_stack(file: Vec<u8>, table: usize) -> Answer {
+    let run = move || search_within(&file, 100_000, &mut vec![0; table]).expect("a good file");
     let thread = std::thread::Builder::new().stack_size(STACK).spawn(run).expect("a thread");
     thread.join().expect("the stack is enough")
 }
 
 #[test]
 fn eighty_steps() {
-    match on_a_small_stack(longest(1)) {
-        Answer::Allowed { count: 81, trace } => assert_eq!(trace.len(), 80),
-        other => panic!("{other:?}"),
+    for table in [0, TABLE] {
+        match on_a_small_stack(longest(1), table) {
+            Answer::Allowed { count: 81, trace } => assert_eq!(trace.len(), 80),
+            other => panic!("table of {table} bytes: {other:?}"),
+        }
     }
 }
 
 #[test]
 fn many_sequences_of_eighty_steps() {
-    assert_eq!(on_a_small_stack(longest(2)), Answer::NotFinished { count: 100_000 });
+    for table in [0, TABLE] {
+        let answer = on_a_small_stack(longest(2), table);
+        assert_eq!(answer, Answer::NotFinished { count: 100_000 }, "table of {table} bytes");
+    }
 }

@@ -1,7 +1,8 @@
 //! The wrapper on document 01's own examples.
 
 use blyskota::{
-    replay, search, trace_file, Answer, File, Machine, Message, Program, Refused, ReplayRefused, Step, Why,
+    replay, search, search_within, trace_file, Answer, File, Machine, Message, Program, Refused,
+    ReplayRefused, Step, Why,
 };
 
 const EMPTY: &[u8] = &[0x50, 0x47, 1, 1, 0x54, 0x48, 0, 0, 0x51, 0x55, 0];
@@ -27,9 +28,37 @@ fn searches() {
     assert_eq!(search(EMPTY, 0), Ok(Answer::NotFinished { count: 0 }));
     assert_eq!(search(&e(1), 5), Ok(Answer::Allowed { count: 5, trace: RUN.to_vec() }));
     assert_eq!(search(&e(2), 12), Ok(Answer::Forbidden { count: 12 }));
+    assert_eq!(search(&e(2), u64::MAX), Ok(Answer::Forbidden { count: 12 }));
     assert_eq!(search(&e(2), 11), Ok(Answer::NotFinished { count: 11 }));
     assert_eq!(search(&[], 1), Err(Refused { why: Why(1), place: 0 }));
     assert_eq!(Program::read(&EMPTY[..4]), Err(Refused { why: Why(1), place: 4 }));
+}
+
+/// Tables of any length and content are all 0 afterwards.
+#[test]
+fn searches_within_a_table() {
+    for length in [0, 1, 1_000, 100_000] {
+        for content in [0, 0xFF] {
+            let mut table = vec![content; length];
+            let mut answers = |value, budget| {
+                table.fill(content);
+                let answer = search_within(&e(value), budget, &mut table);
+                assert_eq!(table, vec![0; length], "a table of {length} bytes {content}");
+                answer
+            };
+            assert_eq!(answers(1, 5), Ok(Answer::Allowed { count: 5, trace: RUN.to_vec() }));
+            assert_eq!(answers(2, u64::MAX), Ok(Answer::Forbidden { count: 12 }));
+            assert_eq!(answers(2, 11), Ok(Answer::NotFinished { count: 11 }));
+        }
+    }
+}
+
+#[test]
+fn a_refused_search_leaves_the_table() {
+    let mut table = vec![0xFF; 1_000];
+    let refused = Err(Refused { why: Why(1), place: 4 });
+    assert_eq!(search_within(&EMPTY[..4], u64::MAX, &mut table), refused);
+    assert_eq!(table, vec![0xFF; 1_000]);
 }
 
 #[test]

@@ -5,13 +5,19 @@ use std::io::Write;
 use twin::arbitrary::{
     any_step, damage, file, likely_step, program, trace, values, walk, Random, LARGE, MIDDLE, SMALL,
 };
-use twin::bytes::{machine_from, program_from};
+use twin::bytes::{machine_bytes, machine_from, program_from};
+use twin::program::Program;
+use twin::search::{search_known, Found, Verdict};
 use twin::step::well_formed;
 
-use crate::{Call, Side};
+use crate::{Call, Side, Table};
 
-/// How often each refusal number was the answer; 0 is none.
-pub type Tally = [u32; 31];
+/// How often each refusal number was the answer, 0 being none, and each verdict of a search.
+#[derive(Default, Debug)]
+pub struct Tally {
+    pub refusals: [u32; 31],
+    pub verdicts: [u32; 4],
+}
 
 /// Asks both sides every call and compares all they leave; a progress line on standard error.
 pub fn compare(
@@ -22,7 +28,7 @@ pub fn compare(
     make: fn(&mut Random) -> Call,
 ) -> Result<Tally, String> {
     let mut random = Random::new(seed);
-    let mut tally = [0; 31];
+    let mut tally = Tally::default();
     for number in 0..calls {
         let call = make(&mut random);
         let room = room(&mut random, call.answer_length());
@@ -31,7 +37,10 @@ pub fn compare(
             return Err(format!("{name} {number}: {call:?}\nroom {room}\n{left:?}\n{other:?}"));
         }
         if let Some(refusal) = call.refusal(&left) {
-            tally[refusal as usize] += 1;
+            tally.refusals[refusal as usize] += 1;
+        }
+        if let Some(verdict) = call.verdict(&left) {
+            tally.verdicts[verdict as usize] += 1;
         }
         if (number + 1) % (calls / 10).max(1) == 0 {
             // Written past the test harness, which would hold a print back to the end.
@@ -150,4 +159,60 @@ pub fn search(random: &mut Random) -> Call {
         _ => u32::from(random.byte()),
     };
     Call::Search { file, budget, area }
+}
+
+/// The most sequences that a search of the next batch goes through: few enough without any table.
+const MOST: u64 = 20_000;
+
+/// Searches with a lent table and budgets about the count, which the twin finds first; now and then
+/// the file is another or damaged, or the trace area too short.
+pub fn search_within(random: &mut Random) -> Call {
+    let program = program(random, MIDDLE);
+    let table = any_table(random, &program);
+    let (file, budget) = if random.one_in(10) {
+        (any_file(random), random.number() % MOST)
+    } else {
+        (file(&program), budget_about(random, &search_known(&program, MOST)))
+    };
+    let area = if random.one_in(20) { random.pick(&[0, 479]) } else { random.pick(&[480, 481, 600]) };
+    Call::SearchWithin { file, budget, area, table }
+}
+
+/// A budget about the count of what is found, or any at all where the search has ended.
+fn budget_about(random: &mut Random, found: &Found) -> u64 {
+    let count = found.count;
+    let below = random.number() % count;
+    let [any, largest] = match found.verdict {
+        Verdict::NotFinished => [below, count],
+        _ => [random.number(), u64::MAX],
+    };
+    random.pick(&[0, below, count / 2, count - 1, count, count + 1, any, largest])
+}
+
+/// A table of any length and content.
+fn any_table(random: &mut Random, program: &Program) -> Table {
+    let length = match random.below(8) {
+        0 => random.pick(&[0, 1]),
+        1 => random.index(340),
+        2 => 340 + random.index(21),
+        3 | 4 => random.index(4_000),
+        5 | 6 => random.index(40_000),
+        _ => random.index(400_000),
+    };
+    Table(match random.below(4) {
+        0 => vec![0; length],
+        1 => vec![0xFF; length],
+        2 => (0..length).map(|_| random.byte()).collect(),
+        _ => entries(random, program, length),
+    })
+}
+
+/// Again and again one machine, fresh or a few steps on, and a few small bytes before or behind it: as
+/// if a search had noted it with a wrong count.
+fn entries(random: &mut Random, program: &Program, length: usize) -> Vec<u8> {
+    let tries = random.pick(&[0, 0, 1, 2, 4]);
+    let machine = machine_bytes(&walk(random, program, tries).1);
+    let count: Vec<u8> = (0..random.below(20)).map(|_| random.below(3)).collect();
+    let entry = if random.one_in(2) { [&machine, &count[..]] } else { [&count[..], &machine] };
+    entry.concat().into_iter().cycle().take(length).collect()
 }

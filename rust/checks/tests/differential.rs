@@ -1,18 +1,26 @@
 //! The library against the twin. `cargo test --offline --release -p checks`
 
 use checks::batches::{self, compare, Tally};
-use checks::{Call, Library, Side, Twin};
-use twin::arbitrary::Random;
-use twin::litmus::vectors;
+use checks::{Call, Library, Side, Table, Twin};
+use twin::arbitrary::{computations, file, Random};
+use twin::calls::verdict_byte;
+use twin::litmus::{examples, vectors, Vector};
+use twin::search::{search_known, Found, Verdict};
 use twin::step::Step;
 
 /// Compares a batch and wants each of these refusal numbers among the answers.
-fn same(name: &str, calls: u32, seed: u64, make: fn(&mut Random) -> Call, reached: &[u8]) {
-    let tally: Tally =
-        compare(name, [&Library, &Twin], calls, seed, make).unwrap_or_else(|other| panic!("{other}"));
+fn same(name: &str, calls: u32, seed: u64, make: fn(&mut Random) -> Call, reached: &[u8]) -> Tally {
+    let tally = compare(name, [&Library, &Twin], calls, seed, make).unwrap_or_else(|other| panic!("{other}"));
     for &number in reached {
-        assert!(tally[number as usize] > 0, "{name}: no answer {number} among {calls}: {tally:?}");
+        assert!(tally.refusals[number as usize] > 0, "{name}: no answer {number} among {calls}: {tally:?}");
     }
+    tally
+}
+
+/// The same for searches, with each verdict among the answers too.
+fn same_searches(name: &str, calls: u32, seed: u64, make: fn(&mut Random) -> Call, reached: &[u8]) {
+    let tally = same(name, calls, seed, make, reached);
+    assert!(tally.verdicts.iter().all(|&often| often > 0), "{name}: a verdict is missing: {tally:?}");
 }
 
 #[test]
@@ -39,22 +47,69 @@ fn certifications() {
 
 #[test]
 fn searches() {
-    same("search", 10_000, 105, batches::search, &[0, 1, 6, 30]);
+    same_searches("search", 10_000, 105, batches::search, &[0, 1, 6, 30]);
+}
+
+#[test]
+fn searches_within() {
+    same_searches("search within", 10_000, 106, batches::search_within, &[0, 1, 6, 30]);
 }
 
 /// Every litmus test, to its end and one short of it, or as far as this goes.
 #[test]
 fn litmus() {
-    const MOST: u32 = 50_000;
+    const MOST: u64 = 50_000;
     for vector in vectors() {
-        for budget in [0, 1, 100, vector.count.saturating_sub(1).min(MOST), vector.count.min(MOST)] {
+        let [short, whole] = [vector.count - 1, vector.count].map(|budget| budget.min(MOST) as u32);
+        for budget in [0, 1, 100, short, whole] {
             let call = Call::Search { file: vector.file.clone(), budget, area: 500 };
             assert_eq!(call.ask(&Library, 12), call.ask(&Twin, 12), "{} {budget}", vector.name);
         }
     }
 }
 
-/// A side with one wrong byte in one answer: the comparison must see it.
+/// Both sides end with the vector's verdict and count, and one short of it they do not.
+fn exactly(vector: &Vector, table: usize) {
+    for budget in [vector.count - 1, vector.count, u64::MAX] {
+        let table = Table(vec![0; table]);
+        let call = Call::SearchWithin { file: vector.file.clone(), budget, area: 500, table };
+        let left = call.ask(&Library, 16);
+        assert_eq!(left, call.ask(&Twin, 16), "{} {budget}", vector.name);
+        let verdict = if budget < vector.count { Verdict::NotFinished } else { vector.verdict };
+        assert_eq!(call.verdict(&left), Some(verdict_byte(verdict)), "{} {budget}", vector.name);
+        assert_eq!(left.answer[8..], budget.min(vector.count).to_le_bytes(), "{} {budget}", vector.name);
+    }
+}
+
+/// Every litmus test to its end, in a table of one MiB.
+#[test]
+fn litmus_to_the_end() {
+    vectors().iter().for_each(|vector| exactly(vector, 1 << 20));
+}
+
+/// The examples to their end: one has more sequences than four bytes can count.
+#[test]
+fn examples_to_the_end() {
+    examples().iter().for_each(|example| exactly(example, blyskota::TABLE));
+}
+
+/// A count of almost 64 bits, and one of more.
+#[test]
+fn large_counts() {
+    let program = computations(8);
+    let Found { verdict, count, .. } = search_known(&program, u64::MAX);
+    assert!(count > 1 << 57, "{count}");
+    exactly(&Vector { name: "computations", verdict, count, file: file(&program) }, blyskota::TABLE);
+    for budget in [1 << 63, u64::MAX] {
+        let table = Table(vec![0; blyskota::TABLE]);
+        let call = Call::SearchWithin { file: file(&computations(9)), budget, area: 500, table };
+        let left = call.ask(&Library, 16);
+        assert_eq!(left, call.ask(&Twin, 16), "{budget}");
+        assert_eq!(call.verdict(&left), Some(verdict_byte(Verdict::NotFinished)), "{budget}");
+    }
+}
+
+/// A side with one wrong byte in an answer, an area or a table: the comparison must see it.
 struct Wrong;
 
 impl Side for Wrong {
@@ -89,6 +144,22 @@ impl Side for Wrong {
         }
         code
     }
+
+    fn search_within(
+        &self,
+        file: &[u8],
+        budget: u64,
+        area: &mut [u8],
+        table: &mut [u8],
+        answer: &mut [u8],
+    ) -> u32 {
+        let before = table.last().copied();
+        let code = Twin.search_within(file, budget, area, table, answer);
+        if let (Some(last), Some(before)) = (table.last_mut(), before) {
+            *last = before;
+        }
+        code
+    }
 }
 
 #[test]
@@ -96,5 +167,6 @@ fn a_wrong_byte_is_noticed() {
     assert!(compare("wrong read", [&Wrong, &Twin], 25_000, 101, batches::read).is_err());
     assert!(compare("wrong step", [&Wrong, &Twin], 1_000, 103, batches::step).is_err());
     assert!(compare("wrong search", [&Wrong, &Twin], 100, 105, batches::search).is_err());
+    assert!(compare("wrong table", [&Wrong, &Twin], 100, 106, batches::search_within).is_err());
     assert!(compare("right certify", [&Wrong, &Twin], 100, 104, batches::certify).is_ok());
 }

@@ -4,19 +4,31 @@
 use std::io::Write;
 use std::process::{Command, Stdio};
 
-use twin::litmus::examples;
+use twin::litmus::{examples, vectors};
 
 const JUDGE: &str = concat!(env!("CARGO_MANIFEST_DIR"), "/../../target/bin/judge");
-const BAD_BUDGET: &str = "judge: the budget is a decimal number from 0 to 4294967295\n";
+const BAD_BUDGET: &str = "judge: the budget is a decimal number from 0 to 18446744073709551615, or all\n";
 
 /// Document 01's E, with the question r0 = 1 of thread 1.
 fn e() -> Vec<u8> {
     b"PG\x01\x02TH\x00\x01IN\x02\x00\x00\x00\x00\x00\x01TH\x01\x01IN\x01\x00\x00\x00\x00\x00\x00QU\x01CN\x00\x01\x00\x01".to_vec()
 }
 
+/// The program, which is for x86-64: elsewhere `on-x86-64` names an emulator.
+fn judge() -> Command {
+    match std::env::var_os("EMULATOR") {
+        None => Command::new(JUDGE),
+        Some(emulator) => {
+            let mut command = Command::new(emulator);
+            command.arg(JUDGE);
+            command
+        }
+    }
+}
+
 /// What the program writes on standard output and on standard error.
 fn judged(input: &[u8], arguments: &[&str]) -> (String, String) {
-    let mut program = Command::new(JUDGE)
+    let mut program = judge()
         .args(arguments)
         .stdin(Stdio::piped())
         .stdout(Stdio::piped())
@@ -64,14 +76,16 @@ fn input_longer_than_any_good_file() {
 fn budgets() {
     prints(&e(), &["0"], "verdict not finished\ncount 0\n");
     prints(&e(), &["4"], "verdict not finished\ncount 4\n");
-    for enough in ["5", "000000000005", "4294967295"] {
+    for enough in ["5", "000000000005", "4294967296", "18446744073709551615", "all"] {
         prints(&e(), &[enough], "verdict allowed\ncount 5\npromise 0 0 1\nexecute 0 1\nexecute 1 1\n");
     }
 }
 
 #[test]
 fn arguments_that_are_no_budget() {
-    for bad in ["4294967296", "99999999999999999999", "-1", "+1", "1 ", "0x10", "ten", ""] {
+    for bad in
+        ["18446744073709551616", "99999999999999999999", "-1", "+1", "1 ", "0x10", "ten", "al", "ALL", ""]
+    {
         complains(&[bad], BAD_BUDGET);
     }
     complains(&["4", "4"], "judge: one budget at most\n");
@@ -86,8 +100,21 @@ fn the_scanner() {
     ] {
         let example =
             examples().into_iter().find(|example| example.name == name).expect("an example of that name");
-        let (wrote, said) = judged(&example.file, &["4294967295"]);
+        let (wrote, said) = judged(&example.file, &["all"]);
         assert!(wrote.starts_with(verdict), "{name}: {wrote}");
         assert_eq!(said, "", "{name}");
+    }
+}
+
+/// The README's proof over more runs than could be looked at one by one.
+#[test]
+fn the_lock() {
+    for (name, verdict) in [
+        ("Peterson", "verdict forbidden\ncount 111655300725\n"),
+        ("Peterson+po-turn+flags", "verdict forbidden\ncount 973723106749\n"),
+    ] {
+        let lock =
+            vectors().into_iter().find(|vector| vector.name == name).expect("a litmus test of that name");
+        prints(&lock.file, &["all"], verdict);
     }
 }

@@ -85,6 +85,15 @@ pub fn program(random: &mut Random, size: Size) -> Program {
     program
 }
 
+/// Four threads of so many computations each (all bytes 0: r0 = 0 + 0), asked for what no run ends
+/// with. Every order of them is accepted, so the count is large and known while the machines are few.
+pub fn computations(each: u8) -> Program {
+    let mut program = Program { version: 1, threads: 4, conditions: 1, ..Program::default() };
+    program.code.iter_mut().for_each(|code| code.count = each);
+    program.condition[0] = Condition { kind: 1, thread: 0, index: 0, value: 1 };
+    program
+}
+
 /// A well-formed instruction with so many after it, mostly about few locations and registers.
 fn instruction(random: &mut Random, after: u8) -> Instruction {
     let op = random.pick(&[COMPUTE, LOAD, LOAD, LOAD, STORE, STORE, STORE, BRANCH, FENCE]);

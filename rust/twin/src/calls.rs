@@ -1,4 +1,4 @@
-//! The five calls on byte slices, as the C library has them: each gives 0, 1 where the answer area
+//! The six calls on byte slices, as the C library has them: each gives 0, 1 where the answer area
 //! is shorter than the answer, or 2 where a value has another length than stated (1 before 2). On 1
 //! and 2 nothing is written; otherwise exactly the answer's bytes. Numbers are little endian.
 
@@ -6,7 +6,7 @@ use crate::bytes::{machine_bytes, machine_from, program_bytes, program_from, ste
 use crate::machine::Machine;
 use crate::program::{self, Program};
 use crate::replay::{self, In};
-use crate::search::{self, Verdict};
+use crate::search::{self, Found, Verdict};
 use crate::step::{self, Step};
 
 pub const READ_ANSWER: usize = 8 + PROGRAM;
@@ -14,6 +14,7 @@ pub const STEP_ANSWER: usize = 1 + MACHINE;
 pub const CERTIFY_ANSWER: usize = 2;
 pub const REPLAY_ANSWER: usize = 16 + MACHINE;
 pub const SEARCH_ANSWER: usize = 12;
+pub const SEARCH_WITHIN_ANSWER: usize = 16;
 /// "lent trace area under 480 bytes" is refusal 30.
 pub const TRACE_AREA: usize = 480;
 
@@ -99,35 +100,58 @@ pub fn replay(file: &[u8], trace: &[u8], answer: &mut [u8]) -> u32 {
     write(answer, &bytes)
 }
 
-/// "verdict (0 refused, 1 allowed, 2 forbidden, 3 not finished), refusal, steps, 0, place u32,
-/// count u32"; "When allowed, the trace takes the first 6 bytes per step of the lent area".
+/// "verdict, refusal, steps, 0, place u32, count u32"
 pub fn search(file: &[u8], budget: u32, area: &mut [u8], answer: &mut [u8]) -> u32 {
     if answer.len() < SEARCH_ANSWER {
         return 1;
     }
+    let (bytes, count) = searched(file, area, |program| search::search(program, budget.into()));
+    // No count is above its budget, so four bytes hold it.
+    write(answer, &[&bytes[..], &(count as u32).to_le_bytes()].concat())
+}
+
+/// "verdict, refusal, steps, 0, place u32, count u64". The lent table, of any length and content, is
+/// all 0 afterwards; the twin keeps what it knows in memory of its own.
+pub fn search_within(file: &[u8], budget: u64, area: &mut [u8], table: &mut [u8], answer: &mut [u8]) -> u32 {
+    if answer.len() < SEARCH_WITHIN_ANSWER {
+        return 1;
+    }
+    let (bytes, count) = searched(file, area, |program| {
+        // Not before: a refused search leaves lent memory unwritten.
+        table.fill(0);
+        search::search_known(program, budget)
+    });
+    write(answer, &[&bytes[..], &count.to_le_bytes()].concat())
+}
+
+/// "verdict (0 refused, 1 allowed, 2 forbidden, 3 not finished), refusal, steps, 0, place u32", and
+/// the count, which the two searches write in different widths; "When allowed, the trace takes the
+/// first 6 bytes per step of the lent area".
+fn searched(file: &[u8], area: &mut [u8], search: impl FnOnce(&Program) -> Found) -> ([u8; 8], u64) {
     let program = match program::read(file) {
         Ok(program) => program,
-        Err(refused) => return write(answer, &search_answer(0, refused.number, 0, refused.place as u32, 0)),
+        Err(refused) => return (search_bytes(0, refused.number, 0, refused.place as u32), 0),
     };
     if area.len() < TRACE_AREA {
-        return write(answer, &search_answer(0, 30, 0, 0, 0));
+        return (search_bytes(0, 30, 0, 0), 0);
     }
-    let found = search::search(&program, budget);
+    let found = search(&program);
     for (index, step) in found.trace.iter().enumerate() {
         area[index * 6..index * 6 + 6].copy_from_slice(&step_bytes(step));
     }
-    let verdict = match found.verdict {
+    (search_bytes(verdict_byte(found.verdict), 0, found.trace.len() as u8, 0), found.count)
+}
+
+/// "1 allowed, 2 forbidden, 3 not finished"
+pub fn verdict_byte(verdict: Verdict) -> u8 {
+    match verdict {
         Verdict::Allowed => 1,
         Verdict::Forbidden => 2,
         Verdict::NotFinished => 3,
-    };
-    write(answer, &search_answer(verdict, 0, found.trace.len() as u8, 0, found.count))
+    }
 }
 
-fn search_answer(verdict: u8, refusal: u8, steps: u8, place: u32, count: u32) -> [u8; SEARCH_ANSWER] {
-    let mut answer = [0; SEARCH_ANSWER];
-    answer[..3].copy_from_slice(&[verdict, refusal, steps]);
-    answer[4..8].copy_from_slice(&place.to_le_bytes());
-    answer[8..].copy_from_slice(&count.to_le_bytes());
-    answer
+fn search_bytes(verdict: u8, refusal: u8, steps: u8, place: u32) -> [u8; 8] {
+    let [a, b, c, d] = place.to_le_bytes();
+    [verdict, refusal, steps, 0, a, b, c, d]
 }

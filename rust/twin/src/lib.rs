@@ -8,6 +8,7 @@ pub mod bytes;
 pub mod calls;
 pub mod candidates;
 pub mod certify;
+pub mod known;
 pub mod literal;
 pub mod litmus;
 pub mod machine;

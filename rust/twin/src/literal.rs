@@ -10,13 +10,13 @@ use crate::step::{accepted, Step};
 
 struct Literal<'a> {
     program: &'a Program,
-    budget: u32,
-    count: u32,
+    budget: u64,
+    count: u64,
     trace: Vec<Step>,
 }
 
 /// The answer of the search on a program, with its trace if "allowed".
-pub fn search(program: &Program, budget: u32) -> Found {
+pub fn search(program: &Program, budget: u64) -> Found {
     let mut literal = Literal { program, budget, count: 0, trace: Vec::new() };
     let verdict = match literal.visit(&Machine::default()) {
         ControlFlow::Continue(()) => Verdict::Forbidden,

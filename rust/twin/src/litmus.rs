@@ -8,16 +8,11 @@ pub struct Vector {
     pub name: &'static str,
     /// The verdict of the literature, or the expected one of an example.
     pub verdict: Verdict,
-    /// The count at the file's budget.
-    pub count: u32,
+    /// The count of the whole search, which the largest budget is enough for.
+    pub count: u64,
     /// The program file.
     pub file: Vec<u8>,
 }
-
-/// The budget of the printing program and of the litmus tests' counts.
-pub const BUDGET: u32 = 1_000_000;
-/// The budget of the examples' counts.
-pub const EXAMPLES_BUDGET: u32 = 5_000_000;
 
 /// All litmus tests.
 pub fn vectors() -> Vec<Vector> {

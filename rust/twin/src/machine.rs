@@ -1,9 +1,11 @@
 //! "The machine": memory, threads, the outcome question, and the machine's well-formedness.
 
+use std::hash::{Hash, Hasher};
+
 use crate::program::Program;
 
 /// "a list of messages (location, value, thread) at times 1, 2, .. up to 16"; time t is entry t - 1.
-#[derive(Clone, Copy, PartialEq, Eq, Debug, Default)]
+#[derive(Clone, Copy, PartialEq, Eq, Hash, Debug, Default)]
 pub struct Memory {
     pub count: u8,
     pub location: [u8; 16],
@@ -42,7 +44,7 @@ pub struct Thread {
     pub promises: u16,
 }
 
-#[derive(Clone, Copy, PartialEq, Eq, Debug, Default)]
+#[derive(Clone, Copy, PartialEq, Eq, Hash, Debug, Default)]
 pub struct Machine {
     pub memory: Memory,
     pub thread: [Thread; 4],
@@ -112,6 +114,18 @@ impl Thread {
     #[inline]
     pub fn take_out(&mut self, time: u8) {
         self.promises &= !(1 << (time - 1));
+    }
+}
+
+/// In few wide pieces: derived, which is byte by byte, it would cost more than the rest of a visit
+/// of a search that knows machines again.
+impl Hash for Thread {
+    fn hash<H: Hasher>(&self, state: &mut H) {
+        self.register.map(|register| u16::from_le_bytes([register.value, register.view])).hash(state);
+        self.coherence.hash(state);
+        self.forward.map(|pair| u16::from_le_bytes([pair.time, pair.view])).hash(state);
+        [self.position, self.r_old, self.w_old, self.r_new, self.w_new, self.cap, self.rel].hash(state);
+        self.promises.hash(state);
     }
 }
 

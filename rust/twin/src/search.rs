@@ -1,11 +1,13 @@
 //! The quick search: the order and the counts of the literal one. It tries only times that the
 //! rules allow and only promises that a run could store, certifies only where a promise is
-//! outstanding, and changes one machine in place, without a cache.
+//! outstanding, and changes one machine in place. It comes in two forms with the same answers: the
+//! plain one visits every sequence, the other none from a machine that it has left before.
 
 use std::ops::ControlFlow;
 
 use crate::candidates::{possible_stores, Plan};
 use crate::certify::quickly;
+use crate::known::{Known, Nothing, Table};
 use crate::machine::{holds, Machine, Memory, Thread};
 use crate::program::Program;
 use crate::rules::{local, Instr, Load, Store};
@@ -23,32 +25,43 @@ pub enum Verdict {
 #[derive(Clone, PartialEq, Eq, Debug)]
 pub struct Found {
     pub verdict: Verdict,
-    pub count: u32,
+    pub count: u64,
     pub trace: Vec<Step>,
 }
 
 /// No sequence is longer than the instructions and the stores of a program: 64 and 16.
 const LONGEST: usize = 80;
 
-struct Search<'a> {
+struct Search<'a, K> {
     program: &'a Program,
     plans: &'a [Plan],
+    known: K,
     machine: Machine,
-    budget: u32,
-    count: u32,
+    /// What is left of the budget.
+    left: u64,
     trace: [Step; LONGEST],
     length: usize,
 }
 
-/// The answer of the search on a program, with its trace if "allowed".
-pub fn search(program: &Program, budget: u32) -> Found {
+/// The answer of the search on a program, with its trace if "allowed"; every sequence is visited.
+pub fn search(program: &Program, budget: u64) -> Found {
+    search_with(Nothing, program, budget)
+}
+
+/// The same answer, also where the sequences are too many to visit: those from a machine that was
+/// left before are counted at once.
+pub fn search_known(program: &Program, budget: u64) -> Found {
+    search_with(Table::default(), program, budget)
+}
+
+fn search_with<K: Known>(known: K, program: &Program, budget: u64) -> Found {
     let plans: Vec<Plan> = program.code[..program.threads as usize].iter().map(Plan::new).collect();
     let mut search = Search {
         program,
         plans: &plans,
+        known,
         machine: Machine::default(),
-        budget,
-        count: 0,
+        left: budget,
         trace: [Step::default(); LONGEST],
         length: 0,
     };
@@ -57,16 +70,17 @@ pub fn search(program: &Program, budget: u32) -> Found {
         ControlFlow::Break(verdict) => verdict,
     };
     let length = if verdict == Verdict::Allowed { search.length } else { 0 };
-    Found { verdict, count: search.count, trace: search.trace[..length].to_vec() }
+    Found { verdict, count: budget - search.left, trace: search.trace[..length].to_vec() }
 }
 
-impl<'a> Search<'a> {
-    /// "every sequence visited, the empty one first, costs one"
+impl<'a, K: Known> Search<'a, K> {
+    /// Spends the budget on all sequences that begin at the machine, unless one of them is wanted.
     fn visit(&mut self) -> ControlFlow<Verdict> {
-        if self.count == self.budget {
-            return ControlFlow::Break(Verdict::NotFinished);
+        if let Some(sequences) = self.known.sequences(&self.machine) {
+            return self.spend(sequences);
         }
-        self.count += 1;
+        let before = self.left;
+        self.spend(1)?;
         let mut complete = true;
         for number in 0..self.plans.len() {
             let thread = &self.machine.thread[number];
@@ -79,6 +93,18 @@ impl<'a> Search<'a> {
             self.executions(number)?;
             self.promises(number)?;
         }
+        self.known.learn(&self.machine, before - self.left);
+        ControlFlow::Continue(())
+    }
+
+    /// "every sequence visited, the empty one first, costs one": too few left are spent all the same.
+    #[inline]
+    fn spend(&mut self, sequences: u64) -> ControlFlow<Verdict> {
+        if sequences > self.left {
+            self.left = 0;
+            return ControlFlow::Break(Verdict::NotFinished);
+        }
+        self.left -= sequences;
         ControlFlow::Continue(())
     }
 

@@ -15,7 +15,7 @@ fn searches_of_small_programs() {
     let mut random = Random::new(1);
     for round in 0..600 {
         let program = program(&mut random, if round % 4 == 0 { MIDDLE } else { SMALL });
-        let budget = u32::from(random.byte());
+        let budget = u64::from(random.byte());
         assert_eq!(search(&program, budget), literal::search(&program, budget), "{program:?}");
     }
 }

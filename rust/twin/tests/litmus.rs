@@ -1,26 +1,21 @@
-//! Every litmus test has its published verdict and its recorded count.
+//! Every litmus test has its published verdict and its recorded count, and so has every example.
 
-use twin::litmus::{examples, vectors, BUDGET, EXAMPLES_BUDGET};
+use twin::litmus::{examples, vectors};
 use twin::program::read;
-use twin::search::{search, Verdict};
+use twin::search::{search, search_known, Found, Verdict};
 
-/// What the few tests that need more than the common budget are given.
-const MORE: u32 = 40_000_000;
+/// The most sequences that the plain search is asked to visit; two examples have more.
+const PLAIN: u64 = 10_000_000;
 
 #[test]
 fn published_verdicts_and_counts() {
     let mut noticed = Vec::new();
     for vector in vectors() {
-        let program = read(&vector.file).expect(vector.name);
-        let mut found = search(&program, BUDGET);
-        let same_count = found.count == vector.count;
-        if !same_count {
+        let found = search_known(&read(&vector.file).expect(vector.name), u64::MAX);
+        if found.count != vector.count {
             noticed.push(format!("{} count", vector.name));
-        } else if found.verdict == Verdict::NotFinished {
-            found = search(&program, MORE);
         }
-        let decided = same_count || found.verdict != Verdict::NotFinished;
-        if decided && found.verdict != vector.verdict {
+        if found.verdict != vector.verdict {
             noticed.push(format!("{} verdict", vector.name));
         }
     }
@@ -30,8 +25,26 @@ fn published_verdicts_and_counts() {
 #[test]
 fn examples_and_counts() {
     for example in examples() {
-        let found = search(&read(&example.file).expect(example.name), EXAMPLES_BUDGET);
+        let found = search_known(&read(&example.file).expect(example.name), u64::MAX);
         assert_eq!((found.verdict, found.count), (example.verdict, example.count), "{}", example.name);
+    }
+}
+
+/// The count is exact: the plain search needs so many and not one fewer.
+#[test]
+fn plain_searches() {
+    let (vectors, examples) = (vectors(), examples());
+    let (asked, longer): (Vec<_>, Vec<_>) =
+        vectors.iter().chain(&examples).partition(|vector| vector.count <= PLAIN);
+    assert_eq!(longer.len(), 2);
+    for vector in asked {
+        let program = read(&vector.file).expect(vector.name);
+        let all = search_known(&program, u64::MAX);
+        assert_eq!(search(&program, vector.count), all, "{}", vector.name);
+        let count = vector.count - 1;
+        let short = Found { verdict: Verdict::NotFinished, count, trace: Vec::new() };
+        assert_eq!(search(&program, count), short, "{}", vector.name);
+        assert_eq!(search_known(&program, count), short, "{}", vector.name);
     }
 }
 

@@ -4,7 +4,7 @@
 use twin::literal;
 use twin::litmus::vectors;
 use twin::program::{read, Refused};
-use twin::search::{search, Found, Verdict};
+use twin::search::{search, search_known, Found, Verdict};
 use twin::step::Step;
 
 const EMPTY: &[u8] = &[0x50, 0x47, 1, 1, 0x54, 0x48, 0, 0, 0x51, 0x55, 0];
@@ -58,7 +58,7 @@ fn table() {
     ];
     for (number, (file, budget, verdict, count)) in rows.into_iter().enumerate() {
         let program = read(&file).expect("a program of the table");
-        for found in [literal::search(&program, budget), search(&program, budget)] {
+        for found in [literal::search, search, search_known].map(|search| search(&program, budget)) {
             assert_eq!((found.verdict, found.count), (verdict, count), "P{}", number + 1);
         }
     }

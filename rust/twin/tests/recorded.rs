@@ -86,6 +86,20 @@ fn searches() -> Digest {
     digest
 }
 
+fn searches_within() -> Digest {
+    let (mut random, mut digest) = (Random::new(16), Digest(0));
+    for _ in 0..1_000 {
+        let file = file(&program(&mut random, MIDDLE));
+        let (mut area, mut table) = ([0; calls::TRACE_AREA], [0xFF; 100]);
+        let mut answer = [0; calls::SEARCH_WITHIN_ANSWER];
+        let served = calls::search_within(&file, 1_000_000, &mut area, &mut table, &mut answer);
+        digest.add(served, &answer);
+        digest.add(0, &area);
+        digest.add(0, &table);
+    }
+    digest
+}
+
 /// Values that are often not well formed.
 fn any_values() -> Digest {
     let (mut random, mut digest) = (Random::new(15), Digest(0));
@@ -108,7 +122,13 @@ fn recorded_answers() {
     for (name, digest) in STEPS.iter().chain(&["certify"]).zip(&stepped) {
         lines.push(format!("{name} {:016x}", digest.0));
     }
-    let whole = [("read", reads()), ("replay", replays()), ("search", searches()), ("values", any_values())];
+    let whole = [
+        ("read", reads()),
+        ("replay", replays()),
+        ("search", searches()),
+        ("search-within", searches_within()),
+        ("values", any_values()),
+    ];
     lines.extend(whole.iter().map(|(name, digest)| format!("{name} {:016x}", digest.0)));
     if std::env::var_os("TWIN_RECORD").is_some() {
         std::fs::write("tests/recorded.txt", lines.join("\n") + "\n").expect("the record is written");

@@ -1,21 +1,19 @@
 //! Prints the search's answer for the program file on standard input, as the judge does. The first
-//! argument is the budget, 1,000,000 without one.
+//! argument is the budget, `all` for the largest, 1,000,000 without one.
 
 use std::io::Read;
 use std::process::ExitCode;
 
-use twin::litmus::BUDGET;
 use twin::program;
-use twin::search::{search, Verdict};
+use twin::search::{search_known, Verdict};
+
+/// "The printing program reads a program file on standard input and uses budget 1,000,000."
+const BUDGET: u64 = 1_000_000;
 
 fn main() -> ExitCode {
-    let budget = match std::env::args().nth(1).map(|word| word.parse()) {
-        None => BUDGET,
-        Some(Ok(budget)) => budget,
-        Some(Err(_)) => {
-            eprintln!("twin-judge [BUDGET] < PROGRAM");
-            return ExitCode::FAILURE;
-        }
+    let Some(budget) = budget(std::env::args().nth(1).as_deref()) else {
+        eprintln!("twin-judge [BUDGET | all] < PROGRAM");
+        return ExitCode::FAILURE;
     };
     let mut file = Vec::new();
     if let Err(error) = std::io::stdin().read_to_end(&mut file) {
@@ -26,12 +24,21 @@ fn main() -> ExitCode {
     ExitCode::SUCCESS
 }
 
-fn print_answer(file: &[u8], budget: u32) {
+/// The budget that the argument asks for, if it is one.
+fn budget(argument: Option<&str>) -> Option<u64> {
+    match argument {
+        None => Some(BUDGET),
+        Some("all") => Some(u64::MAX),
+        Some(number) => number.parse().ok(),
+    }
+}
+
+fn print_answer(file: &[u8], budget: u64) {
     let program = match program::read(file) {
         Ok(program) => program,
         Err(refused) => return println!("refused {} at {}", refused.number, refused.place),
     };
-    let found = search(&program, budget);
+    let found = search_known(&program, budget);
     let verdict = match found.verdict {
         Verdict::Allowed => "allowed",
         Verdict::Forbidden => "forbidden",

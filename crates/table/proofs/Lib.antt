@@ -1,0 +1,4 @@
+pub mod Laws
+pub mod Clearing
+pub mod Counting
+pub mod Seeking
