@@ -1,10 +1,8 @@
 -- What is known of a machine answers every visit of it; and a visit that goes on to its end makes it known.
 -- Assumes nothing.
 use mathlib.Core.Path.{_≡_, refl, sym, ap, subst, _∙_}
-use mathlib.Core.Bool.{Bool, true, false}
-use mathlib.Core.List.{List, [], _∷_}
-use mathlib.Core.Logic.{inl, inr}
-use Prim.Native.Nat.{ℕ, zero, suc, _+_, _-_, _*_, _≤_, _<_}
+use mathlib.Core.List.{List}
+use Prim.Native.Nat.{ℕ, _+_, _-_, _*_, _≤_, _<_}
 use native.Mathlib.Nat.{le-refl}
 use native.Mathlib.Decide.{decLt}
 use native.Mathlib.Omega.{arith}
@@ -12,7 +10,7 @@ use borrow.Author.Tests.{le-leb, lt-leb}
 use lib.ListN.{length}
 use Rattle.source.specs.declared.Program.{Program}
 use Rattle.machine.specs.declared.Machine.{Machine}
-use Rattle.sequences.specs.Sequences.{Among, upto, wanted, Listed}
+use Rattle.sequences.specs.Sequences.{upto, wanted, Listed}
 use Rattle.sequences.specs.Demand.{NoneWanted}
 use Rattle.sequences.proofs.Listed.{only}
 use Rattle.sequences.proofs.Scan.{Scan, going, out, scan-all, scan-spent, scan-went}

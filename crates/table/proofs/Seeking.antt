@@ -4,13 +4,13 @@ use mathlib.Core.Path.{_≡_, sym, ap, _∙_}
 use mathlib.Core.List.{List}
 use Prim.Native.Nat.{ℕ, _+_, _-_, _*_, _/_, _≤_, _<_}
 use native.Mathlib.Omega.{arith}
-use lib.ListN.{length, getD, take, drop, replicate, length-drop, List·getD-append}
+use lib.ListN.{length, getD, take, drop, length-drop, List·getD-append}
 use lib.Seq.{getD-take, getD-drop, ext-getD, length-take-le}
 use Rattle.machine.specs.declared.Machine.{Machine}
 use Rattle.machine_value.specs.Value.{machineBytes}
 use Rattle.machine_value.proofs.Lengths.{machine-length}
 use Rattle.values.specs.Lists.{put}
-use Rattle.table.specs.Table.{keyAt, countAt, Sought, Seen}
+use Rattle.table.specs.Table.{keyAt}
 
 pub within-table : (n slot : ℕ) → slot < n / 349 → 349 * slot + 349 ≤ n
 within-table n slot h = omega arith

@@ -7,8 +7,6 @@ use lib.ListN.{length}
 use Rattle.table.proofs.Clearing.{Clearing, clearing-none, clearing-more, clearing-all}
 use Rattle.table.proofs.clear.Statement.{statement}
 use Rattle.table.proofs.clear.Tie as tie
-use Rattle.table.proofs.clear.Reads as reads
-use Rattle.table.proofs.clear.Lts as lts
 
 abbrev Inv-loop : tie.InvT-loop
 Inv-loop table₀ k₀ table k = Clearing table₀ k table

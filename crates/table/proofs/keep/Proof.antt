@@ -7,8 +7,6 @@ use Rattle.machine_value.proofs.Lengths.{machine-length}
 use Rattle.table.specs.Table.{kept}
 use Rattle.table.proofs.keep.Statement.{statement}
 use Rattle.table.proofs.keep.Tie as tie
-use Rattle.table.proofs.keep.Reads as reads
-use Rattle.table.proofs.keep.Lts as lts
 
 returns : tie.Need-returns
 unfolding kept

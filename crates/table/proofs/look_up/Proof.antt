@@ -1,8 +1,8 @@
 -- `table::look_up` meets its contract: the key is the machine's bytes, and a slot that is the same has its count.
 -- Assumes nothing.
-use mathlib.Core.Path.{_≡_, refl, sym}
+use mathlib.Core.Path.{refl, sym}
 use borrow.Author.Needs.{needs}
-use Rattle.table.specs.Table.{countAt, Sought}
+use Rattle.table.specs.Table.{countAt}
 use Rattle.table.proofs.Seeking.{within-table, key-there}
 use Rattle.table.proofs.look_up.Statement.{statement}
 use Rattle.table.proofs.look_up.Tie as tie

@@ -8,8 +8,6 @@ use borrow.Author.Tests.{eqb-true}
 use Rattle.table.proofs.Counting.{Counting, counting-none, counting-equal, counting-other}
 use Rattle.table.proofs.same.Statement.{statement}
 use Rattle.table.proofs.same.Tie as tie
-use Rattle.table.proofs.same.Reads as reads
-use Rattle.table.proofs.same.Lts as lts
 
 abbrev Inv-loop : tie.InvT-loop
 Inv-loop table at key n₀ k₀ n k = Counting table at key n k
