@@ -3,7 +3,7 @@
 use mathlib.Core.Path.{_≡_, refl, sym, ap, _∙_}
 use mathlib.Core.Bool.{Bool, true, false, cond, _&&_}
 use mathlib.Core.List.{List, [], _∷_}
-use Prim.Native.Nat.{ℕ, suc, _+_, _-_, _*_, _/_, _≤_, _<_}
+use Prim.Native.Nat.{ℕ, suc, _+_, _-_, _*_, _≤_, _<_}
 use native.Mathlib.Numerals.{add-one}
 use native.Mathlib.Omega.{arith}
 use lib.Dec.{eqb, leb}
@@ -58,7 +58,7 @@ module _ {text : List ℕ} {e n i : ℕ} (r : Read text e n i) (l : i < e) where
   unfolding allDigits
   read-above h = (rw (lt-leb (getD text i 0) 57 h, and-false (leb 48 (getD text i 0)))) ∙ next
 
-  pub read-large : (18446744073709551615 - (getD text i 0 - 48)) / 10 < n → Bad ≡ decimalOf text
+  pub read-large : 18446744073709551615 < 10 * n + (getD text i 0 - 48) → Bad ≡ decimalOf text
   unfolding allDigits decimalFrom
   read-large h =
       let m : ℕ = 10 * n + (getD text i 0 - 48) in
@@ -66,13 +66,13 @@ module _ {text : List ℕ} {e n i : ℕ} (r : Read text e n i) (l : i < e) where
       let g = grows m bs in
       (rw (lt-leb (decimalFrom m bs) 18446744073709551615 (omega arith), and-false (digit (getD text i 0) && allDigits bs))) ∙ next
 
-  pub read-more : 48 ≤ getD text i 0 → getD text i 0 ≤ 57 → n ≤ (18446744073709551615 - (getD text i 0 - 48)) / 10 → Read text e (10 * n + (getD text i 0 - 48)) (i + 1)
+  pub read-more : 48 ≤ getD text i 0 → getD text i 0 ≤ 57 → 10 * n + (getD text i 0 - 48) ≤ 18446744073709551615 → Read text e (10 * n + (getD text i 0 - 48)) (i + 1)
   unfolding allDigits decimalFrom
   read-more lo hi s =
       record {
         end = r .end;
         within = let h = here in omega arith;
-        small = omega arith;
+        small = s;
         rest = rw add-one ((rw (le-leb 48 (getD text i 0) lo, le-leb (getD text i 0) 57 hi)) ∙ next);
       }
 

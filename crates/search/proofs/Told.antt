@@ -68,6 +68,10 @@ ready-fresh p area h l =
 pub cleared-holds : (p : Program) (n : ℕ) (t : List ℕ) → t ≡ replicate n 0 → Holds (Known p) t
 cleared-holds p n t e = subst (Holds (Known p)) (sym e) (holds-cleared (Known p) n)
 
+-- a table that is cleared once more is as long as it was before the visit, and before it was cleared first
+pub cleared-again : {table : List ℕ} {visited first lent : ℕ} → table ≡ replicate visited 0 → visited ≡ first → first ≡ lent → table ≡ replicate lent 0
+cleared-again e visit clear = e ∙ ap (λ (n : ℕ). replicate n 0) (visit ∙ clear)
+
 -- ---- the search from the fresh machine gives the answer
 told-answer : (p : Program) (b : ℕ) → told b (visiting p fresh b) ≡ answerTo p b
 unfolding visiting answerTo sequencesOf

@@ -6,8 +6,8 @@ use mathlib.Core.Logic.{_⊎_, inl, inr}
 use Prim.Native.Nat.{ℕ, _+_, _-_, _*_, _≤_, _<_}
 use native.Mathlib.Decide.{decLt}
 use native.Mathlib.Omega.{arith}
-use lib.ListN.{length, getD, take, drop, replicate, length-append, length-drop, getD-replicate, List·getD-append}
-use lib.Seq.{take-at, drop-at, drop-drop, getD-take, getD-drop, getD-append-add, ext-getD, length-take-le}
+use lib.ListN.{length, getD, take, drop, replicate, length-append, length-drop, getD-replicate}
+use lib.Seq.{take-at, drop-at, drop-drop, getD-take, getD-drop, ext-getD, length-take-le}
 use Rattle.views.proofs.Entries.{replicate-all}
 use Rattle.machine.specs.declared.Machine.{Machine}
 use Rattle.machine_value.specs.Value.{machineBytes, machineOf, SizedMachine}
@@ -15,32 +15,9 @@ use Rattle.machine_value.proofs.Back.{machine-back}
 use Rattle.machine_value.proofs.Lengths.{machine-length}
 use Rattle.values.specs.Lists.{put}
 use Rattle.values.specs.Numbers.{word64, word64From}
-use Rattle.values.proofs.Putting.{put-length}
+use Rattle.values.proofs.Putting.{put-length, put-beside}
 use Rattle.values.proofs.Words.{word64-back, same-word64}
 use Rattle.table.specs.Table.{keyAt, countAt, Holds, kept, Sought, Seen}
-
--- ---- bytes beside those that are put
-put-before : (i k : ℕ) (bs a : List ℕ) → i ≤ length a → k < i → getD (put i bs a) k 0 ≡ getD a k 0
-unfolding put
-put-before i k bs a h l =
-    let n : length (take i a) ≡ i = length-take-le i a h in
-    List·getD-append (take i a) (bs ++ drop (i + length bs) a) 0 k (omega arith) ∙ getD-take i a k 0 l
-
-put-behind : (i j : ℕ) (bs a : List ℕ) → i ≤ length a → getD (put i bs a) (i + length bs + j) 0 ≡ getD a (i + length bs + j) 0
-unfolding put
-put-behind i j bs a h =
-    let n : length (take i a) ≡ i = length-take-le i a h in
-    let e : i + length bs + j ≡ length (take i a) + (length bs + j) = omega arith in
-    ap (λ (k : ℕ). getD (take i a ++ (bs ++ drop (i + length bs) a)) k 0) e
-    ∙ getD-append-add (take i a) (bs ++ drop (i + length bs) a) (length bs + j) 0
-    ∙ getD-append-add bs (drop (i + length bs) a) j 0
-    ∙ getD-drop (i + length bs) a j 0
-
-put-beside : (i n k : ℕ) (bs a : List ℕ) → length bs ≡ n → i ≤ length a → (k < i) ⊎ (i + n ≤ k) → getD (put i bs a) k 0 ≡ getD a k 0
-put-beside i n k bs a e h (inl l) = put-before i k bs a h l
-put-beside i n k bs a e h (inr l) =
-    let m : i + length bs + (k - (i + n)) ≡ k = omega arith in
-    subst (λ (j : ℕ). getD (put i bs a) j 0 ≡ getD a j 0) m (put-behind i (k - (i + n)) bs a h)
 
 -- ---- two tables that agree on a slot
 module _ (t u : List ℕ) (size : length u ≡ length t) (j : ℕ) (within : 349 * j + 349 ≤ length t) (agree : (k : ℕ) → 349 * j ≤ k → k < 349 * j + 349 → getD u k 0 ≡ getD t k 0) where

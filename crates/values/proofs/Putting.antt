@@ -1,11 +1,12 @@
 -- A list with some bytes replaced: one byte, a run, one run after the other, and a loop that writes entries of equal width.
 -- Assumes nothing.
-use mathlib.Core.Path.{_≡_, sym, ap, ap₂, _∙_}
+use mathlib.Core.Path.{_≡_, sym, ap, ap₂, subst, _∙_}
 use mathlib.Core.List.{List, [], _∷_, _++_, append-assoc}
+use mathlib.Core.Logic.{_⊎_, inl, inr}
 use Prim.Native.Nat.{ℕ, suc, _+_, _-_, _≤_, _<_}
 use native.Mathlib.Omega.{arith}
-use lib.ListN.{length, take, drop, set, length-append, length-take, length-drop, take-append-drop}
-use lib.Seq.{sets, sets-eq, set-split, length-take-le, take-at, drop-at, drop-drop}
+use lib.ListN.{length, getD, take, drop, set, length-append, length-take, length-drop, take-append-drop, List·getD-append}
+use lib.Seq.{sets, sets-eq, set-split, length-take-le, take-at, drop-at, drop-drop, getD-take, getD-drop, getD-append-add}
 use Rattle.values.specs.Lists.{put, joined}
 
 pub put-none : (i : ℕ) (a : List ℕ) → put i [] a ≡ a
@@ -47,6 +48,29 @@ put-more i j bs cs a e h =
 -- the same, where what is written is known by equations
 pub put-then : (i j : ℕ) (bs cs a : List ℕ) {b c : List ℕ} → b ≡ put i bs a → c ≡ put j cs b → j ≡ i + length bs → i ≤ length a → c ≡ put i (bs ++ cs) a
 put-then i j bs cs a e e' l h = e' ∙ ap (put j cs) e ∙ put-more i j bs cs a l h
+
+-- ---- bytes beside those that are put stay
+put-before : (i k : ℕ) (bs a : List ℕ) → i ≤ length a → k < i → getD (put i bs a) k 0 ≡ getD a k 0
+unfolding put
+put-before i k bs a h l =
+    let n : length (take i a) ≡ i = length-take-le i a h in
+    List·getD-append (take i a) (bs ++ drop (i + length bs) a) 0 k (omega arith) ∙ getD-take i a k 0 l
+
+put-behind : (i j : ℕ) (bs a : List ℕ) → i ≤ length a → getD (put i bs a) (i + length bs + j) 0 ≡ getD a (i + length bs + j) 0
+unfolding put
+put-behind i j bs a h =
+    let n : length (take i a) ≡ i = length-take-le i a h in
+    let e : i + length bs + j ≡ length (take i a) + (length bs + j) = omega arith in
+    ap (λ (k : ℕ). getD (take i a ++ (bs ++ drop (i + length bs) a)) k 0) e
+    ∙ getD-append-add (take i a) (bs ++ drop (i + length bs) a) (length bs + j) 0
+    ∙ getD-append-add bs (drop (i + length bs) a) j 0
+    ∙ getD-drop (i + length bs) a j 0
+
+pub put-beside : (i n k : ℕ) (bs a : List ℕ) → length bs ≡ n → i ≤ length a → (k < i) ⊎ (i + n ≤ k) → getD (put i bs a) k 0 ≡ getD a k 0
+put-beside i n k bs a e h (inl l) = put-before i k bs a h l
+put-beside i n k bs a e h (inr l) =
+    let m : i + length bs + (k - (i + n)) ≡ k = omega arith in
+    subst (λ (j : ℕ). getD (put i bs a) j 0 ≡ getD a j 0) m (put-behind i (k - (i + n)) bs a h)
 
 -- ---- a loop that writes n entries from place `at` on: k are written, the next goes to place j
 pub record Putting (f : ℕ → List ℕ) (n at : ℕ) (a₀ : List ℕ) (k j : ℕ) (a : List ℕ) : Type 0 where

@@ -35,7 +35,7 @@ sub-if4 : tie.Need-sub-if4 Inv-loop μ-loop
 sub-if4 c = omega arith
 
 returns-4 : tie.Need-returns-4 Inv-loop μ-loop
-returns-4 c = read-large (c .before .before .before .before .before .loop .inv) (c .before .before .before .before .loop-test .taken) (c .if4 .taken)
+returns-4 c = read-large (c .before .before .before .before .before .loop .inv) (c .before .before .before .before .loop-test .taken) (omega (arith, c .if4 .taken))
 
 mul-n : tie.Need-mul-n Inv-loop μ-loop
 mul-n c = omega (arith, c .if4 .left)
@@ -50,7 +50,7 @@ loop-less : tie.Need-loop-less Inv-loop μ-loop
 loop-less c = search needs
 
 loop-again : tie.Need-loop-again Inv-loop μ-loop
-loop-again c = read-more (c .before .before .before .before .before .loop .inv) (c .before .before .before .before .loop-test .taken) (c .before .before .if2 .left) (c .before .if3 .left) (c .if4 .left)
+loop-again c = read-more (c .before .before .before .before .before .loop .inv) (c .before .before .before .before .loop-test .taken) (c .before .before .if2 .left) (c .before .if3 .left) (omega (arith, c .if4 .left))
 
 returns-5 : tie.Need-returns-5 Inv-loop μ-loop
 returns-5 c = read-all (c .before .loop .inv) (c .loop-test .left)

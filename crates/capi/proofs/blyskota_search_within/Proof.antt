@@ -1,5 +1,6 @@
 -- `capi::blyskota_search_within` meets its contract.
 -- Assumes nothing.
+use native.Mathlib.Omega.{arith}
 use borrow.Author.Needs.{needs}
 use Rattle.search.proofs.Promise.{few-steps}
 use Rattle.capi.proofs.Called.{within-short, within-answered}
@@ -7,13 +8,18 @@ use Rattle.capi.proofs.blyskota_search_within.Statement.{statement}
 use Rattle.capi.proofs.blyskota_search_within.Tie as tie
 
 returns : tie.Need-returns
-returns c = within-short _ _ _ _ _ (c .if1 .taken)
+returns c = within-short _ _ _ _ _ (omega arith)
 
 put-within-requires : tie.Need-put-within-requires
-put-within-requires c κs = (c .before .before .before .before .before .before .before .before .if1 .left, few-steps _ _ _ _ _ (c .before .before .before .before .search-within .ensures .searched))
+put-within-requires c κs =
+    let s = c .before .before .before .before in
+    (s .before .before .before .before .if1 .left, few-steps _ _ _ _ _ (s .search-within .ensures .searched))
 
 returns-2 : tie.Need-returns-2
-returns-2 c = within-answered _ _ _ _ _ _ _ _ _ (c .before .before .before .before .before .before .before .before .before .before .before .if1 .left) (c .before .before .before .before .before .before .before .search-within .ensures) (c .before .before .put-within .ensures)
+returns-2 c =
+    let w = c .before .before in
+    let s = w .before .before .before .before .before in
+    within-answered _ _ _ _ _ _ _ _ _ (s .before .before .before .before .if1 .left) (s .search-within .ensures) (w .put-within .ensures)
 
 pub blyskota-search-within-spec : {M : Type 1} → statement M
 blyskota-search-within-spec =
