@@ -1,6 +1,6 @@
 -- Certification asked of a program, a machine and a thread by value: what well-formed ones give, and what each test says of the definition.
 -- Assumes nothing.
-use mathlib.Core.Path.{_≡_, sym, ap, _∙_}
+use mathlib.Core.Path.{_≡_, sym, ap₂, _∙_}
 use mathlib.Core.Bool.{Bool, true, false, _&&_}
 use Prim.Native.Nat.{ℕ, _≤_, _<_}
 use native.Mathlib.Omega.{arith}
@@ -14,7 +14,7 @@ use Rattle.machine.specs.State.{threadOf}
 use Rattle.machine.specs.WellFormed.{machineTest, Formed}
 use Rattle.machine.proofs.Formed.{MachineOk, machine-iff}
 use Rattle.certify.specs.Below.{Code, Program, Thread, Machine}
-use Rattle.certify.specs.Certify.{certify, certified}
+use Rattle.certify.specs.Certify.{certified}
 use Rattle.certify.specs.Answers.{Certified, Yes, No, Refused, certification, Ready}
 
 -- ---- what a well-formed program and machine give
@@ -50,10 +50,9 @@ module _ (p : Program) (x : Machine) (i : ℕ) (f : Bool) (e : f ≡ (programTes
     unfolding certification
     certify-21 l = rw (sym e ∙ h, le-ltb i (p .threads) l)
 
-    module _ (l : i < p .threads) (c : Code) (g : c ≡ codeOf p i) (s : Thread) (q : s ≡ threadOf x i) (b : Bool) (d : b ≡ certify (c .count) c i (x .memory) s) where
+    module _ (l : i < p .threads) (c : Code) (g : c ≡ codeOf p i) (s : Thread) (q : s ≡ threadOf x i) (b : Bool) (d : b ≡ certified c i (x .memory) s) where
       the-test : b ≡ certified (codeOf p i) i (x .memory) (threadOf x i)
-      unfolding certified
-      the-test = d ∙ ap (λ (y : Code). certify (y .count) y i (x .memory) s) g ∙ ap (certify ((codeOf p i) .count) (codeOf p i) i (x .memory)) q
+      the-test = d ∙ ap₂ (λ (y : Code) (z : Thread). certified y i (x .memory) z) g q
 
       pub certify-yes : b ≡ true → Yes ≡ certification p x i
       unfolding certification

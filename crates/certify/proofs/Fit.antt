@@ -14,7 +14,7 @@ use Rattle.machine.proofs.Sets.{with-without, ones-none, ones-without}
 use Rattle.machine.proofs.Effects.{storeLocation, Effect, computed, loaded, stored, branched, fenced, effect, moves}
 use Rattle.certify.specs.Below.{Code, Operand, StoreMode, Instr, Store, Message, Memory, Thread}
 use Rattle.certify.specs.Certify.{messageOf, certified}
-use Rattle.certify.specs.Runs.{Run, done, by, own, Certifying, Unlimited}
+use Rattle.certify.specs.Runs.{Comes, Run, done, by, own, Certifying, Unlimited}
 use Rattle.certify.proofs.Iff.{certified-iff}
 
 -- how many promises are outstanding
@@ -55,24 +55,28 @@ own-store : {i : ℕ} {m : Memory} {w : Message} {s : Thread} {x : Instr} {s' : 
 own-store (owned e) = refl
 
 -- ---- along a run
-module _ {Room : Memory → Type 0} {c : Code} {i : ℕ} where
-  -- a run has no more promises to fulfil than stores to come
-  pub fits : {m : Memory} {s : Thread} → Run Room c i m s → outstanding s ≤ storesFrom c (s .position)
-  fits {m} {s} (done e) = let z = ones-none in let f = ap ones e in omega arith
-  fits {m} {s} (by x t s' g tl e r) =
-      let h = effect x m t s s' e in
-      let a = fits r in
-      let b = takes h in
-      let d = stores-past c (s .position) x g in
-      let f = stores-fall c (suc (s .position)) (s' .position) (moves h) in
-      omega arith
-  fits {m} {s} (own x w s' g gw room e r) =
-      let h = effect x (append m w) ((append m w) .count) (addPromise (append m w) s) s' e in
-      let k = moves h in
-      let a = fits r in
-      let b = ap ones (own-leaves (own-effect i m w s gw h)) in
-      let f = stores-fall c (s .position) (s' .position) (omega arith) in
-      omega arith
+-- where the goal has stores enough left for all promises, so has each state from which it is reached
+pub comes-fit : {Goal : Thread → Type 0} {Room : Memory → Type 0} {c : Code} {i : ℕ} → ((s : Thread) → Goal s → outstanding s ≤ storesFrom c (s .position))
+    → {m : Memory} {s : Thread} → Comes Goal Room c i m s → outstanding s ≤ storesFrom c (s .position)
+comes-fit f {m} {s} (done g) = f s g
+comes-fit {c = c} f {m} {s} (by x t s' g tl e r) =
+    let h = effect x m t s s' e in
+    let a = comes-fit f r in
+    let b = takes h in
+    let d = stores-past c (s .position) x g in
+    let k = stores-fall c (suc (s .position)) (s' .position) (moves h) in
+    omega arith
+comes-fit {c = c} {i} f {m} {s} (own x w s' g gw room e r) =
+    let h = effect x (append m w) ((append m w) .count) (addPromise (append m w) s) s' e in
+    let k = moves h in
+    let a = comes-fit f r in
+    let b = ap ones (own-leaves (own-effect i m w s gw h)) in
+    let l = stores-fall c (s .position) (s' .position) (omega arith) in
+    omega arith
+
+-- a run has no more promises to fulfil than stores to come
+pub fits : {Room : Memory → Type 0} {c : Code} {i : ℕ} {m : Memory} {s : Thread} → Run Room c i m s → outstanding s ≤ storesFrom c (s .position)
+fits r = comes-fit (λ s e. let z = ones-none in let f = ap ones e in omega arith) r
 
 -- PROMISES FIT: a certified thread has no more promises outstanding than stores at its position and after it
 pub promises-fit : (c : Code) (i : ℕ) (m : Memory) (s : Thread) → T (certified c i m s) → outstanding s ≤ storesFrom c (s .position)

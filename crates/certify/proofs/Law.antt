@@ -52,7 +52,7 @@ unfolding readValue
 read-value m t h = rw (ne-eqb t 0 (λ e. omega arith))
 
 -- a time that is not the forward time is read with itself as the view
-read-view : (s : Thread) (l t : ℕ) → (getD (s .forward) l freshForward) .time ≢ t → readView s l t ≡ t
+pub read-view : (s : Thread) (l t : ℕ) → (getD (s .forward) l freshForward) .time ≢ t → readView s l t ≡ t
 read-view s l t n = go (eqb t ((getD (s .forward) l freshForward) .time)) refl
   where
     go : (b : Bool) → eqb t ((getD (s .forward) l freshForward) .time) ≡ b → cond b ((getD (s .forward) l freshForward) .view) t ≡ t

@@ -5,3 +5,6 @@ pub mod Candidates
 pub mod Law
 pub mod Trying
 pub mod Asked
+pub mod Alike
+pub mod Tries
+pub mod Reaching

@@ -8,7 +8,7 @@ use lib.Dec.{ltb}
 use Rattle.source.specs.Program.{instrAt, codeOf}
 use Rattle.source.specs.WellFormed.{programTest}
 use Rattle.source.proofs.Formed.{CodeOk}
-use Rattle.machine.specs.State.{threadOf}
+use Rattle.machine.specs.State.{threadOf, messageAt}
 use Rattle.machine.specs.Rules.{next, execute}
 use Rattle.machine.specs.WellFormed.{machineTest}
 use Rattle.certify.specs.Below.{Code, Program, Instr, Memory, Thread, Machine}
@@ -40,8 +40,24 @@ pub record Trying (c : Code) (m : Memory) (s : Thread) (x : Instr) : Type 0 wher
   pub ready : Ready c m s
   pub is-next : instrAt c (s .position) ≡ some x
 
--- at no time of the memory outside first .. last can the instruction be executed
-pub record Only (x : Instr) (m : Memory) (s : Thread) (first last : ℕ) : Type 0 where
-  pub known : last ≤ m .count
-  pub before : (t : ℕ) (s' : Thread) → t < first → execute x m t s ≡ next s' → ⊥
-  pub after : (t : ℕ) (s' : Thread) → last < t → execute x m t s ≡ next s' → ⊥
+-- before time t the instruction cannot be executed
+pub record Earliest (x : Instr) (m : Memory) (s : Thread) (t : ℕ) : Type 0 where
+  pub within : t ≤ 17
+  pub before : (u : ℕ) (s' : Thread) → u < t → execute x m u s ≡ next s' → ⊥
+
+-- t is 0, or a time of the memory up to v at which a message to l stands
+pub record Stands (m : Memory) (l v t : ℕ) : Type 0 where
+  pub known : t ≤ m .count
+  pub there : 0 < t → ((messageAt m t) .location ≡ l) × (t ≤ v)
+
+-- r is after t, and no message between them is to l; 17 if none is left
+pub record NextMessage (m : Memory) (l t r : ℕ) : Type 0 where
+  pub later : t < r
+  pub within : r ≤ 17
+  pub between : (u : ℕ) → t < u → u < r → u ≤ m .count → (messageAt m u) .location ≡ l → ⊥
+
+-- r is after t, and between them the instruction cannot be executed; 17 if it cannot be later at all
+pub record Following (x : Instr) (m : Memory) (s : Thread) (t r : ℕ) : Type 0 where
+  pub later : t < r
+  pub within : r ≤ 17
+  pub between : (u : ℕ) (s' : Thread) → t < u → u < r → execute x m u s ≡ next s' → ⊥

@@ -2,7 +2,7 @@
 ghost use mathlib.Core.Path.{_≡_};
 ghost use Rattle.certify.specs.Answers.{certification};
 use crate::Certified;
-use crate::certify_within;
+use crate::is_certified;
 use machine::Machine;
 use machine_form::both_formed;
 use source::Program;
@@ -17,7 +17,7 @@ pub fn certify(p: Program, x: Machine, i: u8) -> Certified
         return Certified::Refused(21);
     }
     let c = p.code_of(i);
-    if certify_within(c.count, c, i, x.memory, x.thread_of(i)) {
+    if is_certified(c, i, x.memory, x.thread_of(i)) {
         Certified::Yes
     } else {
         Certified::No

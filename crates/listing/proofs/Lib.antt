@@ -4,4 +4,3 @@ pub mod Machine
 pub mod Meaning
 pub mod Few
 pub mod Quick
-pub mod Possible

@@ -55,7 +55,7 @@ pub fn none_newer(m: Memory, l: u8, t: u8, v: u8) -> bool
 }
 
 // Time 0 holds value 0.
-fn read_value(m: Memory, t: u8) -> u8
+pub fn read_value(m: Memory, t: u8) -> u8
     requires { ⌜ t ≤ 16 ⌝ }
     ensures { λ r. ⌜ r ≡ readValue m t ⌝ }
 {

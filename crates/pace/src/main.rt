@@ -4,19 +4,13 @@ ghost use mathlib.Core.Path.{_≡_};
 ghost use lib.IntN.{pos};
 ghost use lib.ListN.{length};
 ghost use lib.Signed.{_≤ℤ_};
-use candidates::least::next_store;
-use candidates::pass::possible_stores;
 use certify::Certified;
 use certify::certify;
 use libc::STDERR_FILENO;
 use libc::STDOUT_FILENO;
 use machine::Machine;
-use machine::Memory;
-use machine::Message;
-use machine::Thread;
 use machine::machines::fresh;
 use program::read;
-use source::Code;
 use source::Program;
 use std::num::wrapping_add_u64;
 use std::num::wrapping_sub_u64;
@@ -182,68 +176,8 @@ fn certifications(calls: u64) {
     report(b"certify", calls, sum, before);
 }
 
-// ---- possible stores: of the same thread, and of seven loads of one location that are added up and stored, with eight messages there
-fn seven_loads() -> Program {
-    let r = read(
-        b"PG\x01\x01TH\x00\x0f\
-        IN\x01\x00\x01\x00\x00\x00\x00IN\x00\x00\x00\x01\x00\x01\x01\
-        IN\x01\x00\x01\x00\x00\x00\x00IN\x00\x00\x00\x01\x00\x01\x01\
-        IN\x01\x00\x01\x00\x00\x00\x00IN\x00\x00\x00\x01\x00\x01\x01\
-        IN\x01\x00\x01\x00\x00\x00\x00IN\x00\x00\x00\x01\x00\x01\x01\
-        IN\x01\x00\x01\x00\x00\x00\x00IN\x00\x00\x00\x01\x00\x01\x01\
-        IN\x01\x00\x01\x00\x00\x00\x00IN\x00\x00\x00\x01\x00\x01\x01\
-        IN\x01\x00\x01\x00\x00\x00\x00IN\x00\x00\x00\x01\x00\x01\x01\
-        IN\x02\x00\x00\x00\x01\x01\x00QU\x00",
-    );
-    r.program
-}
-
-fn eight_messages() -> Machine {
-    let mut x = fresh();
-    for v in 1..9 {
-        let m = x.memory;
-        if m.count < 16 {
-            x.memory = m.append(Message {
-                location: 0,
-                value: v,
-                thread: 0,
-            });
-        }
-    }
-    x
-}
-
-// The first possible store and the number of sets.
-fn first_possible(c: Code, m: Memory, s: Thread) -> u64 {
-    if 16 < c.count {
-        return 0;
-    }
-    if 16 < m.count {
-        return 0;
-    }
-    let p = possible_stores(c, m, s);
-    next_store(p, 0) as u64 + p.count as u64
-}
-
-fn possible(name: &[u8], p: Program, x: Machine, calls: u64) {
-    let before = used();
-    let mut sum = 0u64;
-    for i in 0..calls {
-        let y = with_value(x, i);
-        sum = wrapping_add_u64(sum, first_possible(p.code_of(0), y.memory, y.thread_of(0)));
-    }
-    report(name, calls, sum, before);
-}
-
 fn main() {
     readings(100000);
     steps(100000);
     certifications(100000);
-    possible(b"possible stores", load_buffering(), fresh(), 100000);
-    possible(
-        b"possible stores after seven loads",
-        seven_loads(),
-        eight_messages(),
-        100000,
-    );
 }

@@ -4,23 +4,25 @@ use mathlib.Core.Path.{_≡_, refl, sym, ap, ap₂, subst, _∙_}
 use mathlib.Core.Bool.{Bool, true, false, _&&_}
 use mathlib.Core.Logic.{_⊎_, inl, inr}
 use mathlib.Core.Option.{some}
-use Prim.Native.Nat.{ℕ, zero, suc, _+_, _-_, _^_, _≤_, _<_}
+use Prim.Native.Nat.{ℕ, zero, suc, _+_, _-_, _≤_, _<_}
 use native.Mathlib.Omega.{arith}
-use lib.Dec.{eqb, leb, ltb, ltb→lt}
+use lib.Dec.{T, eqb, leb, ltb, eqb→eq, ltb→lt}
 use lib.ListN.{set}
 use borrow.Author.Tests.{lt-ltb, le-ltb, le-leb, lt-leb, eq-eqb, ne-eqb}
 use Rattle.source.specs.Program.{instrAt, codeOf}
 use Rattle.source.specs.WellFormed.{programTest}
+use Rattle.source.proofs.Tests.{is-true}
 use Rattle.machine.specs.State.{threadOf, append}
 use Rattle.machine.specs.Rules.{execute, addPromise}
 use Rattle.machine.specs.WellFormed.{machineTest, Formed}
 use Rattle.machine.specs.Answers.{ruled, reach}
 use Rattle.machine.specs.declared.RuleAnswer.the-variants as rule
 use Rattle.machine.specs.declared.Ruled.{Ruled}
-use Rattle.machine.proofs.Sets.{with-small}
 use Rattle.machine.proofs.Cases.{reach-within, ruled-done, ruled-refused}
 use Rattle.machine.proofs.Effects.{effect}
-use Rattle.certify.specs.Certify.{certify, certified}
+use Rattle.certify.specs.Certify.{certified}
+use Rattle.certify.specs.Runs.{done}
+use Rattle.certify.proofs.Iff.{certified-iff}
 use Rattle.certify.specs.Answers.{Ready}
 use Rattle.certify.proofs.Asked.{ready-here}
 use Rattle.certify.proofs.Trying.{ready-after}
@@ -50,25 +52,14 @@ module _ (c : Code) (m : Memory) (s : Thread) (o : Ready c m s) where
   pub ready-executed : (y : Instr) (t : ℕ) (r : Ruled) → r ≡ ruled s (execute y m t s) → r .answer ≡ rule.Done → Ready c m (r .thread)
   ready-executed y t r e d = ready-after o (effect y m t s (r .thread) (ruled-done s (execute y m t s) r e d))
 
-  -- and after a promise
-  pub ready-promised : m .count < 16 → (w : Message) → Ready c (append m w) (addPromise (append m w) s)
-  ready-promised few w = record { code-ok = o .code-ok; room = omega arith; promises-in = with-small (s .promises) (m .count) (o .promises-in) }
-
-  -- there is room for the promise in the set
-  pub with-room : m .count < 16 → (0 < m .count + 1) × ((m .count + 1 ≤ 16) × (s .promises < 2 ^ (m .count + 1 - 1)))
-  with-room few = let n : m .count + 1 - 1 ≡ m .count = omega arith in (omega arith, (omega arith, rw n (o .promises-in)))
-
 -- ---- certified or not
 -- a thread without a promise is
-without-promise : (n : ℕ) (c : Code) (i : ℕ) (m : Memory) (s : Thread) → eqb (s .promises) 0 ≡ true → certify n c i m s ≡ true
-unfolding certify
-without-promise zero c i m s h = h
-without-promise (suc n) c i m s h = rw h
+without-promise : (c : Code) (i : ℕ) (m : Memory) (s : Thread) → eqb (s .promises) 0 ≡ true → certified c i m s ≡ true
+without-promise c i m s h = is-true (certified c i m s) (certified-iff c i m s .1 (done (eqb→eq (s .promises) 0 (subst T (sym h) tt))))
 
-module _ (c : Code) (i : ℕ) (m : Memory) (s : Thread) (b : Bool) (d : b ≡ certify (c .count) c i m s) where
+module _ (c : Code) (i : ℕ) (m : Memory) (s : Thread) (b : Bool) (d : b ≡ certified c i m s) where
   the-test : (p : Program) → codeOf p i ≡ c → certified (codeOf p i) i m s ≡ b
-  unfolding certified
-  the-test p e = ap (λ (y : Code). certify (y .count) y i m s) e ∙ sym d
+  the-test p e = ap (λ (y : Code). certified y i m s) e ∙ sym d
 
   pub settle-yes : b ≡ true → (r : Moved) → r ≡ goes s → Settles c i m s r
   unfolding settle
@@ -79,7 +70,7 @@ module _ (c : Code) (i : ℕ) (m : Memory) (s : Thread) (b : Bool) (d : b ≡ ce
   settle-no q r z p x e = rw (the-test p e ∙ q, z)
 
 pub settle-free : (c : Code) (i : ℕ) (m : Memory) (s : Thread) (b : Bool) → b ≡ eqb (s .promises) 0 → b ≡ true → (r : Moved) → r ≡ goes s → Settles c i m s r
-settle-free c i m s b d h r z p x e = settle-yes c i m s true (sym (without-promise (c .count) c i m s (sym d ∙ h))) refl r z p x e
+settle-free c i m s b d h r z p x e = settle-yes c i m s true (sym (without-promise c i m s (sym d ∙ h))) refl r z p x e
 
 -- ---- executing
 module _ (c : Code) (i : ℕ) (m : Memory) (s : Thread) (t : ℕ) (a : Moved) where

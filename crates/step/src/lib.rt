@@ -9,7 +9,7 @@ ghost use Rattle.machine.specs.WellFormed.{Formed};
 ghost use Rattle.certify.specs.Answers.{Ready};
 ghost use Rattle.step.specs.Step.{rejected, ruleStep, step};
 ghost use Rattle.step.specs.Answers.{Taken, Refused, stepped, Settles, Executes, Promises, Moves, Remembers};
-use certify::certify_within;
+use certify::is_certified;
 use machine::Machine;
 use machine::Memory;
 use machine::Message;
@@ -82,7 +82,7 @@ fn settle(c: Code, i: u8, m: Memory, s: Thread) -> Moved
     if is_empty(s.promises) {
         return goes(s);
     }
-    if certify_within(c.count, c, i, m, s) {
+    if is_certified(c, i, m, s) {
         goes(s)
     } else {
         stays(29, s)

@@ -17,7 +17,7 @@ use machine::promises::without;
 use source::StoreMode;
 
 // The largest of address view, data view, wNew and CAP, and for release also rOld and wOld.
-fn store_pre(k: StoreMode, va: u8, vd: u8, w: Views) -> u8
+pub fn store_pre(k: StoreMode, va: u8, vd: u8, w: Views) -> u8
     ensures { λ r. ⌜ r ≡ storePre k va vd w ⌝ }
 {
     let v = larger(larger(va, vd), larger(w.wNew, w.cap));

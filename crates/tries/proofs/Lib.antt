@@ -1,4 +1,3 @@
 pub mod Refused
-pub mod Sets
 pub mod Worth
 pub mod Open

@@ -1,9 +1,9 @@
--- Steps that need no try, because they are refused: at a time at which the instruction cannot execute, of a promise that is not possible.
+-- Steps that need no try, because they are refused: at a time at which the instruction cannot execute, of a promise that has no room or is not reached.
 -- Assumes nothing.
 use mathlib.Core.Path.{_≡_, refl, subst}
 use mathlib.Core.Bool.{_&&_}
 use mathlib.Core.Option.{none, some}
-use Prim.Native.Nat.{ℕ, _≤_, _<_}
+use Prim.Native.Nat.{ℕ, _+_, _*_, _≤_, _<_}
 use native.Mathlib.Omega.{arith}
 use lib.Count.{ones}
 use lib.Dec.{ltb, eqb, ltb→lt}
@@ -21,13 +21,12 @@ use Rattle.machine.specs.WellFormed.{machineTest}
 use Rattle.machine.proofs.Formed.{MachineOk}
 use Rattle.source.proofs.Formed.{ProgramOk}
 use Rattle.certify.proofs.Fit.{promises-fit}
-use Rattle.candidates.specs.declared.Possible.{Possible}
-use Rattle.candidates.specs.Answers.{Covers, Possibly}
+use Rattle.explore.specs.Explored.{Reached}
+use Rattle.explore.proofs.Law.{explored-law}
 use Rattle.step.specs.Step.{Step, Outcome, rejected, accepted, settleRule, executeInstr, kindStep, ruleStep, executeStep, step, taken}
 use Rattle.step.specs.Order.{execution, promise}
 use Rattle.step.proofs.Backwards.{check-passed, not-accepted, promisedMemory, promisedThread, Did, executed, promised, did}
 use Rattle.step.proofs.Bound.{well-formed, one-promise}
-use Rattle.listing.proofs.Possible.{accepted-possible}
 
 -- what is not accepted is not taken
 pub not-taken : (o : Outcome) → ((y : Machine) → o ≡ accepted y → ⊥) → taken o ≡ none
@@ -51,6 +50,18 @@ module _ (p : Program) (x : Machine) where
       let full' : storesFrom (codeOf p i) ((threadOf x i) .position) ≤ ones ((threadOf x i) .promises) =
       subst (λ (j : ℕ). storesFrom (codeOf p j) ((threadOf x j) .position) ≤ ones ((threadOf x j) .promises)) w full in
       omega arith
+
+  too-full : {k : Step} {y : Machine} → Did p x k y → k .kind ≡ 1 → 16 ≤ (x .memory) .count → ⊥
+  too-full (executed c s h g e q) z full = omega arith
+  too-full (promised {i} {l} {v} h low byte room q) z full = omega arith
+
+  -- an accepted promise is reached
+  reached-did : MachineOk p x → {k : Step} {y : Machine} → Did p x k y → k .kind ≡ 1 → Reached (codeOf p (k .thread)) (x .memory) (threadOf x (k .thread)) (256 * k .a + k .b)
+  reached-did mo (executed c s h g e q) z = absurd (omega arith)
+  reached-did mo (promised {i} {l} {v} h low byte room q) z =
+      let o = mo .states i h in
+      explored-law (codeOf p i) i l v (x .memory) (threadOf x i)
+      (record { places = mo .memory-ok .places; locations = o .locations; forwards = o .forward-times; promises-in = o .promises-in }) room q
 
   module _ (i : ℕ) where
     -- ---- times
@@ -82,6 +93,10 @@ module _ (p : Program) (x : Machine) where
         not-taken (step p x (promise i l v))
         (λ y e. let w = well-formed p x y (promise i l v) e in too-many i (w .0) (w .1) (did p x y (promise i l v) e .2) refl refl full)
 
-    -- a promise that is not possible
-    pub not-possible : (r : Possible) → Covers (codeOf p i) (x .memory) (threadOf x i) r → (l v : ℕ) → (Possibly r l v → ⊥) → taken (step p x (promise i l v)) ≡ none
-    not-possible r all l v never = not-taken (step p x (promise i l v)) (λ y e. never (accepted-possible p x y (promise i l v) e refl r all))
+    -- 16 messages stand
+    pub no-room : (l v : ℕ) → 16 ≤ (x .memory) .count → taken (step p x (promise i l v)) ≡ none
+    no-room l v full = not-taken (step p x (promise i l v)) (λ y e. too-full (did p x y (promise i l v) e .2) refl full)
+
+    -- a promise that no exploration reaches
+    pub not-reached : (l v : ℕ) → (Reached (codeOf p i) (x .memory) (threadOf x i) (256 * l + v) → ⊥) → taken (step p x (promise i l v)) ≡ none
+    not-reached l v never = not-taken (step p x (promise i l v)) (λ y e. never (reached-did (well-formed p x y (promise i l v) e .1) (did p x y (promise i l v) e .2) refl))

@@ -1,35 +1,36 @@
 -- What the code of the next step worth a try relies on, on plain values: numbers of steps, stores that are left, what a thread can try.
 -- Assumes nothing.
 use mathlib.Core.Path.{_≡_, sym, ap, subst, _∙_}
-use mathlib.Core.Bool.{Bool, true, false, cond}
+use mathlib.Core.Bool.{Bool, true, false, not}
 use mathlib.Core.Option.{none, some}
-use Prim.Native.Nat.{ℕ, zero, suc, _+_, _-_, _/_, _%_, _≤_, _<_}
+use Prim.Native.Nat.{ℕ, zero, suc, _*_, _+_, _-_, _/_, _%_, _≤_, _<_}
 use native.Mathlib.Decide.{decLt}
 use native.Mathlib.Omega.{arith}
 use lib.Count.{ones}
-use lib.Dec.{T, eqb, ltb}
-use borrow.Author.Tests.{lt-ltb, le-ltb, ltb-false}
+use lib.Dec.{T, ltb}
+use borrow.Author.Tests.{lt-ltb, le-ltb, ltb-true}
 use Rattle.source.specs.declared.Code.{Code}
-use Rattle.source.specs.declared.Instruction.{Instruction}
 use Rattle.source.specs.declared.Instr.{Instr}
 use Rattle.source.specs.declared.Program.{Program}
-use Rattle.source.specs.Program.{instructionAt, instrAt}
-use Rattle.source.specs.Counts.{oneStore, storesAmong, storesFrom}
+use Rattle.source.specs.Program.{instrAt}
+use Rattle.source.specs.Counts.{storesFrom}
 use Rattle.machine.specs.declared.Memory.{Memory}
 use Rattle.machine.specs.declared.Thread.{Thread}
 use Rattle.machine.specs.declared.Machine.{Machine}
 use Rattle.machine.specs.State.{threadOf}
 use Rattle.machine.specs.Rules.{next, execute}
-use Rattle.candidates.specs.declared.Possible.{Possible}
-use Rattle.candidates.specs.Answers.{Covers}
-use Rattle.candidates.specs.Answers as possible
+use Rattle.machine.proofs.Cases.{was-true}
+use Rattle.live.proofs.Stores.{stores-end}
+use Rattle.certify.specs.Sought.{Least}
+use Rattle.explore.specs.Explored.{Reached}
 use Rattle.step.specs.Step.{Step, step, taken}
 use Rattle.step.specs.Order.{execution}
 use Rattle.step.specs.Answers.{Here}
 use Rattle.listing.proofs.Keys.{keyPromise}
 use Rattle.tries.specs.Steps.{stepAt, Next}
-use Rattle.tries.specs.Worthwhile.{Attempts, AtZero, Later, After, timely, Worth, NextTime}
-use Rattle.tries.proofs.Refused.{no-instruction, no-such-time, no-store-left, not-possible}
+use Rattle.times.specs.Times.{AtZero, Later, After}
+use Rattle.tries.specs.Worthwhile.{Attempts, timely, Worth, NextTime}
+use Rattle.tries.proofs.Refused.{no-instruction, no-such-time, no-store-left, no-room, not-reached}
 
 -- ---- numbers of steps
 pub at-time : (i k : ℕ) → k < 17 → execution i k ≡ stepAt i k
@@ -39,43 +40,6 @@ at-time i k h = rw (lt-ltb k 17 h)
 pub at-key : (i k : ℕ) → 17 ≤ k → keyPromise i (k - 17) ≡ stepAt i k
 unfolding stepAt
 at-key i k h = rw (le-ltb k 17 h)
-
--- ---- the stores that are left
-one-at-most : (x : Instruction) → oneStore x ≤ 1
-unfolding oneStore
-one-at-most x = go (eqb (x .op) 2)
-  where
-    go : (b : Bool) → cond b 1 0 ≤ 1
-    go true = omega arith
-    go false = omega arith
-
-pub counts-one : (v : ℕ) (x : Instruction) → v ≡ oneStore x → v ≤ 1
-counts-one v x e = let o = one-at-most x in omega arith
-
-pub stores-more : (c : Code) (k : ℕ) → k < c .count → storesFrom c k ≡ oneStore (instructionAt c k) + storesFrom c (k + 1)
-unfolding storesFrom storesAmong
-stores-more c k h =
-    let e : c .count - k ≡ suc (c .count - (k + 1)) = omega arith in
-    let f : suc k ≡ k + 1 = omega arith in
-    ap (storesAmong c k) e ∙ ap (λ (j : ℕ). oneStore (instructionAt c k) + storesAmong c j (c .count - (k + 1))) f
-
-pub stores-end : (c : Code) (k : ℕ) → c .count ≤ k → storesFrom c k ≡ 0
-unfolding storesFrom storesAmong
-stores-end c k h = let e : c .count - k ≡ 0 = omega arith in ap (storesAmong c k) e
-
--- counted one by one
-pub counted-more : (c : Code) (n r k v : ℕ) (o : Instruction) → (r + storesFrom c k ≡ storesFrom c n) × (r ≤ k) → k < c .count → o ≡ instructionAt c k → v ≡ oneStore o
-    → (r + v + storesFrom c (k + 1) ≡ storesFrom c n) × (r + v ≤ k + 1)
-counted-more c n r k v o inv l e f =
-    let i0 = inv .0 in
-    let i1 = inv .1 in
-    let one = one-at-most o in
-    let more = stores-more c k l in
-    let same : oneStore o ≡ oneStore (instructionAt c k) = ap oneStore e in
-    (omega arith, omega arith)
-
-pub counted-all : (c : Code) (n r k : ℕ) → (r + storesFrom c k ≡ storesFrom c n) × (r ≤ k) → c .count ≤ k → r ≡ storesFrom c n
-counted-all c n r k inv l = let i0 = inv .0 in let e = stores-end c k l in omega arith
 
 -- ---- what a thread can try
 module _ (c : Code) (m : Memory) (s : Thread) where
@@ -96,15 +60,15 @@ module _ (c : Code) (m : Memory) (s : Thread) where
       }
 
   -- what the next instruction and the stores that are left give
-  pub what-is-worth : (y : Instr) → instrAt c (s .position) ≡ some y → (z : Bool) → AtZero y z → (r : ℕ) → Later y m s r → (n : ℕ)
-      → n ≡ storesFrom c (s .position) → Worth c m s (record { zero = z; later = r; promises = ltb (ones (s .promises)) n })
-  what-is-worth y is-next z zero-only r later-only n e =
+  pub what-is-worth : (y : Instr) → instrAt c (s .position) ≡ some y → (z : Bool) → AtZero y z → (r : ℕ) → Later y m s r → (b : Bool)
+      → b ≡ ltb (storesFrom c (s .position)) (ones (s .promises) + 1) → Worth c m s (record { zero = z; later = r; promises = not b })
+  what-is-worth y is-next z zero-only r later-only b e =
       record {
         times = λ p x i g k l. no-such-time p x i y (rw (g .code, g .thread) is-next) k (λ s' q. never k l s' (subst (λ (v : Thread). execute y m k v ≡ next s') (g .thread) (subst (λ (n : Memory). execute y n k (threadOf x i) ≡ next s') (g .memory) q)));
-        promises = λ f. let few = ltb-false (ones (s .promises)) n f in no-promise (omega arith);
+        promises = λ f. let few = ltb-true (storesFrom c (s .position)) (ones (s .promises) + 1) (was-true e f) in no-promise (omega arith);
       }
     where
-      never : (k : ℕ) → timely (record { zero = z; later = r; promises = ltb (ones (s .promises)) n }) k ≡ false → (s' : Thread) → execute y m k s ≡ next s' → ⊥
+      never : (k : ℕ) → timely (record { zero = z; later = r; promises = not b }) k ≡ false → (s' : Thread) → execute y m k s ≡ next s' → ⊥
       never zero l s' q = zero-only l m s s' q
       never (suc k) l s' q = subst T l (later-only (suc k) s' (omega arith) q)
 
@@ -153,14 +117,20 @@ module _ (c : Code) (m : Memory) (s : Thread) (t : Attempts) (w : Worth c m s t)
       }
 
 module _ (c : Code) (m : Memory) (s : Thread) where
-  pub next-possible : (r : Possible) → Covers c m s r → (from n : ℕ) → possible.Next r from n → Next keyPromise 4096 c m s from n
-  next-possible r all from n nx =
+  -- none has room
+  pub next-full : (from : ℕ) → 16 ≤ m .count → Next keyPromise 4096 c m s from 4096
+  next-full from full =
+      record { within = omega arith; after = λ l. l; refused = λ p x i h k a u. no-room p x i (k / 256) (k % 256) (rw (h .memory) full) }
+
+  -- from what an exploration answers
+  pub next-explored : (from n : ℕ) → Least from 4096 (Reached c m s) n → Next keyPromise 4096 c m s from n
+  next-explored from n l =
       record {
-        within = nx .within;
-        after = λ l. elim (decLt n 4096) [ yes h ↦ nx .after h | no h ↦ omega arith ];
-        refused = λ p x i h k l u.
-            let top = nx .within in
-            not-possible p x i r (rw (h .code, h .memory, h .thread) all) (k / 256) (k % 256) (λ q. let v = nx .least k (omega arith) l q in omega arith);
+        within = l .better .low;
+        after = λ h. let top = l .better .low in elim (decLt n 4096) [ yes u ↦ l .better .hit u .0 | no u ↦ omega arith ];
+        refused = λ p x i h k a u.
+            let same : 256 * (k / 256) + k % 256 ≡ k = omega arith in
+            not-reached p x i (k / 256) (k % 256) (rw (h .code, h .memory, h .thread) (λ r. l .least k a u (subst (Reached c m s) same r)));
       }
 
   pub past-times : (from n : ℕ) → 17 ≤ from → Next keyPromise 4096 c m s (from - 17) n → Next stepAt 4113 c m s from (n + 17)

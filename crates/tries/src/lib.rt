@@ -1,7 +1,6 @@
 // The next steps of one thread that are worth a try, by their number: 0 to 16 execute at that time, from 17 on promise
 // location l with value v as 17 + 256 · l + v.
 pub mod threads;
-mod times;
 
 ghost use mathlib.Core.Path.{_≡_};
 ghost use mathlib.Core.Option.{some};
@@ -14,8 +13,8 @@ ghost use Rattle.certify.specs.Answers.{Ready};
 ghost use Rattle.listing.proofs.Keys.{keyPromise};
 ghost use Rattle.tries.specs.Steps.{stepAt, Next, Numbered};
 ghost use Rattle.tries.specs.Worthwhile.{Worth, NextTime};
-use candidates::least::next_store;
-use candidates::pass::possible_stores;
+use explore::next_reached;
+use live::fewer_stores;
 use machine::Memory;
 use machine::Thread;
 use source::Code;
@@ -68,21 +67,6 @@ pub fn step_at(i: u8, k: u16) -> TraceStep
     promise(i, (n / 256) as u8, (n % 256) as u8)
 }
 
-// The stores at position n and after it.
-fn stores_from(c: Code, n: u8) -> u8
-    requires { ⌜ c .count ≤ 16 ⌝ }
-    ensures { λ r. ⌜ r ≡ storesFrom c n ⌝ }
-{
-    let mut r = 0u8;
-    let mut k = n;
-    while k < c.count {
-        let x = c.instructions[k as usize];
-        r += x.one_store();
-        k += 1;
-    }
-    r
-}
-
 // What is worth a try of a thread with the next instruction x: time 0, later times, and promises unless each store that is left
 // has one.
 pub fn tries_of(x: Instr, c: Code, m: Memory, s: Thread) -> Attempts
@@ -92,7 +76,7 @@ pub fn tries_of(x: Instr, c: Code, m: Memory, s: Thread) -> Attempts
     Attempts {
         zero: at_zero(x),
         later: later_times(x, m, s),
-        promises: u16::count_ones(s.promises) < stores_from(c, s.position) as u32,
+        promises: !fewer_stores(c, s.position, u16::count_ones(s.promises) + 1),
     }
 }
 
@@ -109,15 +93,19 @@ fn next_time(t: Attempts, from: u8) -> u8
     after(t.later, from - 1)
 }
 
-// The next promise that is worth a try, by 256 · l + v, or 4096.
+// The next promise that is worth a try, by 256 · l + v, or 4096: one that a run of the thread alone could keep. With 16 messages
+// there is no room for one.
 fn next_promise(t: Attempts, c: Code, m: Memory, s: Thread, from: u16) -> u16
     requires { ⌜ Ready c m s × Worth c m s t ⌝ }
     ensures { λ r. ⌜ Next keyPromise 4096 c m s from r ⌝ }
 {
-    if t.promises {
-        return next_store(possible_stores(c, m, s), from);
+    if !t.promises {
+        return 4096;
     }
-    4096
+    if 16 <= m.count {
+        return 4096;
+    }
+    next_reached(c, m, s, from)
 }
 
 // The next step that is worth a try.

@@ -3,10 +3,12 @@
 use checks::batches::{self, compare, Tally};
 use checks::{Call, Library, Side, Table, Twin};
 use twin::arbitrary::{computations, file, Random};
+use twin::bytes::{machine_bytes, program_bytes};
 use twin::calls::verdict_byte;
 use twin::litmus::{examples, vectors, Vector};
 use twin::search::{search_known, Found, Verdict};
 use twin::step::Step;
+use twin::worst;
 
 /// Compares a batch and wants each of these refusal numbers among the answers.
 fn same(name: &str, calls: u32, seed: u64, make: fn(&mut Random) -> Call, reached: &[u8]) -> Tally {
@@ -91,6 +93,28 @@ fn litmus_to_the_end() {
 #[test]
 fn examples_to_the_end() {
     examples().iter().for_each(|example| exactly(example, blyskota::TABLE));
+}
+
+/// The files that take longest, with the budget of their benchmark.
+#[test]
+fn worst_files() {
+    for vector in worst::files() {
+        for budget in [1, worst::BUDGET / 2, worst::BUDGET] {
+            let call = Call::Search { file: vector.file.clone(), budget, area: 500 };
+            assert_eq!(call.ask(&Library, 12), call.ask(&Twin, 12), "{} {budget}", vector.name);
+        }
+    }
+}
+
+/// Certifications that have to look at every run.
+#[test]
+fn worst_certifications() {
+    for loads in 1..=8 {
+        let (program, machine) = worst::unkept(loads);
+        let (program, machine) = (program_bytes(&program).to_vec(), machine_bytes(&machine).to_vec());
+        let call = Call::Certify { program, machine, thread: 1 };
+        assert_eq!(call.ask(&Library, 4), call.ask(&Twin, 4), "{loads} loads");
+    }
 }
 
 /// A count of almost 64 bits, and one of more.

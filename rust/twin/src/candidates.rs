@@ -2,7 +2,7 @@
 //! what such a run could store is tried: a superset, found in one pass over the code with a set of
 //! possible values for each register. Branches go forward only, so one pass sees every run.
 
-use crate::machine::{Memory, Thread};
+use crate::machine::{Memory, Register, Thread};
 use crate::program::Code;
 use crate::rules::{computed, decode, Fence, Instr, Operand};
 
@@ -26,17 +26,26 @@ impl Values {
     }
 
     #[inline]
+    pub fn contains(&self, value: u8) -> bool {
+        self.0[value as usize / 64] >> (value % 64) & 1 == 1
+    }
+
+    #[inline]
     pub fn join(&mut self, other: &Values) {
         for word in 0..4 {
             self.0[word] |= other.0[word];
         }
     }
 
+    #[inline]
+    pub fn count(&self) -> u32 {
+        self.0.iter().map(|word| word.count_ones()).sum()
+    }
+
     /// The only value, if there is one only.
     #[inline]
     fn only(&self) -> Option<u8> {
-        let ones: u32 = self.0.iter().map(|word| word.count_ones()).sum();
-        if ones == 1 {
+        if self.count() == 1 {
             self.next(0)
         } else {
             None
@@ -73,9 +82,15 @@ impl Values {
 }
 
 /// What each location may be given.
-#[derive(Clone, Copy)]
+#[derive(Clone, Copy, Default)]
 pub struct Stores {
     pub values: [Values; 16],
+}
+
+impl Stores {
+    pub fn count(&self) -> u32 {
+        self.values.iter().map(Values::count).sum()
+    }
 }
 
 /// A thread's code made ready for searching: decoded, with what can be known from the code alone.
@@ -83,6 +98,8 @@ pub struct Plan {
     count: u8,
     instrs: [Instr; 16],
     stores_left: [u8; 17],
+    /// The registers that may be read from each position on before they are written: bit r for r.
+    read_later: [u8; 17],
     /// From each position on, the stores there if all have constant operands: (location, value).
     constant: [Option<Vec<(u8, u8)>>; 17],
 }
@@ -95,17 +112,19 @@ impl Plan {
             *instr = decode(instruction);
         }
         let mut stores_left = [0; 17];
+        let mut read_later = [0; 17];
         for index in (0..count).rev() {
-            stores_left[index] = match instrs[index] {
-                Instr::Store { .. } => stores_left[index + 1] + 1,
-                Instr::Branch { skip, .. } => {
-                    stores_left[index + 1].max(stores_left[index + 1 + skip as usize])
-                }
-                _ => stores_left[index + 1],
+            let target = match instrs[index] {
+                Instr::Branch { skip, .. } => index + 1 + skip as usize,
+                _ => index + 1,
             };
+            let store = u8::from(matches!(instrs[index], Instr::Store { .. }));
+            stores_left[index] = store + stores_left[index + 1].max(stores_left[target]);
+            let (read, written) = registers(&instrs[index]);
+            read_later[index] = read | (read_later[index + 1] | read_later[target]) & !written;
         }
         let constant = std::array::from_fn(|from| constant_stores(instrs.get(from..count).unwrap_or(&[])));
-        Plan { count: code.count, instrs, stores_left, constant }
+        Plan { count: code.count, instrs, stores_left, read_later, constant }
     }
 
     #[inline]
@@ -124,10 +143,39 @@ impl Plan {
         self.stores_left[position as usize]
     }
 
+    /// The thread with all registers 0 that it does not read again.
+    #[inline]
+    pub fn without_unread(&self, thread: &Thread) -> Thread {
+        let mut next = *thread;
+        for (number, register) in next.register.iter_mut().enumerate() {
+            if self.read_later[thread.position as usize] >> number & 1 == 0 {
+                *register = Register::default();
+            }
+        }
+        next
+    }
+
     /// The stores from the position on, if they are known from the code alone.
     #[inline]
     pub fn constant(&self, position: u8) -> Option<&[(u8, u8)]> {
         self.constant[position as usize].as_deref()
+    }
+}
+
+/// The registers that an instruction reads and writes: bit r for r.
+fn registers(instr: &Instr) -> (u8, u8) {
+    let bit = |operand: Operand| match operand {
+        Operand::Constant(_) => 0,
+        Operand::Register(number) => 1 << number,
+    };
+    match *instr {
+        Instr::Compute { into, left, right, .. } | Instr::Load { into, left, right, .. } => {
+            (bit(left) | bit(right), 1 << into)
+        }
+        Instr::Store { address: left, data: right, .. } | Instr::Branch { left, right, .. } => {
+            (bit(left) | bit(right), 0)
+        }
+        Instr::Fence(_) => (0, 0),
     }
 }
 
@@ -160,8 +208,7 @@ struct Pass<'a> {
 /// What the thread could store from its position on, views ignored.
 pub fn possible_stores(plan: &Plan, thread: &Thread, memory: &Memory) -> Stores {
     let register = thread.register.map(|register| Values::one(register.value));
-    let stores = Stores { values: [Values::NONE; 16] };
-    let mut pass = Pass { memory, register, stores, doubtful_until: 0 };
+    let mut pass = Pass { memory, register, stores: Stores::default(), doubtful_until: 0 };
     let mut position = thread.position;
     while position < plan.count {
         position = pass.instruction(&plan.instr(position), position);

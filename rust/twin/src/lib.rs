@@ -17,3 +17,4 @@ pub mod replay;
 pub mod rules;
 pub mod search;
 pub mod step;
+pub mod worst;

@@ -25,7 +25,7 @@ pub fn examples() -> Vec<Vector> {
 }
 
 /// "name, verdict, count, hex of the program file".
-fn vector(line: &'static str) -> Vector {
+pub fn vector(line: &'static str) -> Vector {
     let fields: Vec<&str> = line.split(' ').collect();
     let [name, verdict, count, hex] = fields[..] else { panic!("four fields: {line}") };
     let verdict = match verdict {

@@ -83,6 +83,13 @@ impl Memory {
         self.count
     }
 
+    /// Makes another message of the one at a time.
+    pub fn set(&mut self, time: u8, location: u8, value: u8) {
+        let index = (time - 1) as usize & 15;
+        self.location[index] = location;
+        self.value[index] = value;
+    }
+
     /// Takes the newest message back.
     #[inline]
     pub fn take_back(&mut self) {

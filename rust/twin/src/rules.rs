@@ -202,7 +202,7 @@ impl Store {
 
     /// The larger of the two views that "must both be below t".
     #[inline]
-    fn floor(&self, thread: &Thread) -> u8 {
+    pub fn floor(&self, thread: &Thread) -> u8 {
         self.pre_view.max(thread.coherence[self.location as usize & 15])
     }
 

@@ -6,7 +6,7 @@
 use std::ops::ControlFlow;
 
 use crate::candidates::{possible_stores, Plan};
-use crate::certify::quickly;
+use crate::certify::{promisable, quickly};
 use crate::known::{Known, Nothing, Table};
 use crate::machine::{holds, Machine, Memory, Thread};
 use crate::program::Program;
@@ -31,6 +31,9 @@ pub struct Found {
 
 /// No sequence is longer than the instructions and the stores of a program: 64 and 16.
 const LONGEST: usize = 80;
+
+/// Where more promises than this look possible, it pays to walk all runs and see which are.
+const MANY: u32 = 16;
 
 struct Search<'a, K> {
     program: &'a Program,
@@ -191,8 +194,12 @@ impl<'a, K: Known> Search<'a, K> {
     }
 
     fn possible_promises(&mut self, number: usize) -> ControlFlow<Verdict> {
-        let (thread, memory) = (&self.machine.thread[number], &self.machine.memory);
-        let stores = possible_stores(&self.plans[number], thread, memory);
+        let (thread, memory) = (&self.machine.thread[number], &mut self.machine.memory);
+        let plan: &'a Plan = &self.plans[number];
+        let mut stores = possible_stores(plan, thread, memory);
+        if stores.count() > MANY {
+            stores = promisable(plan, number as u8, thread, memory);
+        }
         for location in 0..16 {
             for value in stores.values[location as usize].iter() {
                 self.promise(number, location, value)?;

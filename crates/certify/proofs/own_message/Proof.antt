@@ -1,20 +1,18 @@
+-- `certify::own_message` meets its contract.
+-- Assumes nothing.
 use borrow.Author.Needs.{needs}
 use Rattle.certify.proofs.own_message.Statement.{statement}
 use Rattle.certify.proofs.own_message.Tie as tie
 
--- src/lib.rt:97:27
 value-of-requires : tie.Need-value-of-requires
 value-of-requires c κs = search needs
 
--- src/lib.rt:97:19
 address-requires : tie.Need-address-requires
 address-requires c κs = search needs
 
--- src/lib.rt:98:16
 value-of-requires-2 : tie.Need-value-of-requires-2
 value-of-requires-2 c κs = search needs
 
--- src/lib.rt:93:1
 returns : tie.Need-returns
 returns c = rw (c .value-of2 .ensures, c .before .address .ensures .0, c .before .before .value-of .ensures)
 

@@ -1,6 +1,7 @@
 -- `step::promise_step` meets its contract.
 -- Assumes nothing.
-use Rattle.step.proofs.Stepping.{with-room, ready-promised, promise-23, promise-24, promise-settles}
+use Rattle.certify.proofs.Trying.{ready-promised, with-room}
+use Rattle.step.proofs.Stepping.{promise-23, promise-24, promise-settles}
 use mathlib.Core.Path.{refl}
 use borrow.Author.Needs.{needs}
 use Rattle.step.proofs.promise_step.Statement.{statement}

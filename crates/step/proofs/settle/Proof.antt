@@ -14,8 +14,8 @@ goes-requires c κs = search needs
 returns : tie.Need-returns
 returns c = settle-free _ _ _ _ _ (c .before .before .is-empty .ensures) (c .before .if1 .taken) _ (c .goes .ensures)
 
-certify-within-requires : tie.Need-certify-within-requires
-certify-within-requires c κs = search needs
+is-certified-requires : tie.Need-is-certified-requires
+is-certified-requires c κs = search needs
 
 goes-requires-2 : tie.Need-goes-requires-2
 goes-requires-2 c κs = search needs
@@ -24,10 +24,10 @@ stays-requires : tie.Need-stays-requires
 stays-requires c κs = search needs
 
 returns-2 : tie.Need-returns-2
-returns-2 c = settle-yes _ _ _ _ _ (c .before .before .certify-within .ensures) (c .before .if2 .taken) _ (c .goes2 .ensures)
+returns-2 c = settle-yes _ _ _ _ _ (c .before .before .is-certified .ensures) (c .before .if2 .taken) _ (c .goes2 .ensures)
 
 returns-3 : tie.Need-returns-3
-returns-3 c = settle-no _ _ _ _ _ (c .before .before .certify-within .ensures) (c .before .if2 .left) _ (c .stays .ensures)
+returns-3 c = settle-no _ _ _ _ _ (c .before .before .is-certified .ensures) (c .before .if2 .left) _ (c .stays .ensures)
 
 pub settle-spec : {M : Type 1} → statement M
-settle-spec = tie.close (tie.spec is-empty-requires goes-requires returns certify-within-requires goes-requires-2 stays-requires returns-2 returns-3)
+settle-spec = tie.close (tie.spec is-empty-requires goes-requires returns is-certified-requires goes-requires-2 stays-requires returns-2 returns-3)

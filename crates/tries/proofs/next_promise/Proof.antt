@@ -1,26 +1,22 @@
 -- `tries::next_promise` meets its contract.
 -- Assumes nothing.
-use Rattle.tries.proofs.Worth.{none-promised, next-possible}
-use borrow.Author.Needs.{needs}
+use mathlib.Core.Path.{refl}
+use Rattle.machine.proofs.Cases.{was-false}
+use Rattle.tries.proofs.Worth.{none-promised, next-full, next-explored}
 use Rattle.tries.proofs.next_promise.Statement.{statement}
 use Rattle.tries.proofs.next_promise.Tie as tie
 
--- src/lib.rt:109:27
-possible-stores-requires : tie.Need-possible-stores-requires
-possible-stores-requires c κs = search needs
-
--- src/lib.rt:109:9
-next-store-requires : tie.Need-next-store-requires
-next-store-requires c κs = search needs
-
--- src/lib.rt:109:9
 returns : tie.Need-returns
-returns c = next-possible _ _ _ _ (c .before .possible-stores .ensures) _ _ (c .next-store .ensures)
+returns c = none-promised _ _ _ _ (c .before .before .pre .1) _ (was-false refl (c .if1 .taken))
 
--- src/lib.rt:104:1
 returns-2 : tie.Need-returns-2
-returns-2 c = none-promised _ _ _ _ (c .before .pre .1) _ (c .if1 .left)
+returns-2 c = next-full _ _ _ _ (c .if2 .taken)
+
+next-reached-requires : tie.Need-next-reached-requires
+next-reached-requires c κs = (c .before .before .before .before .pre .0, c .if2 .left)
+
+returns-3 : tie.Need-returns-3
+returns-3 c = next-explored _ _ _ _ _ (c .next-reached .ensures)
 
 pub next-promise-spec : {M : Type 1} → statement M
-next-promise-spec =
-    tie.close (tie.spec possible-stores-requires next-store-requires returns returns-2)
+next-promise-spec = tie.close (tie.spec returns returns-2 next-reached-requires returns-3)

@@ -5,27 +5,21 @@ use borrow.Author.Needs.{needs}
 use Rattle.tries.proofs.next_time.Statement.{statement}
 use Rattle.tries.proofs.next_time.Tie as tie
 
--- src/lib.rt:96:13
 returns : tie.Need-returns
 returns c = rw (c .before .if1 .taken) (at-zero-now (c .if2 .taken))
 
--- src/lib.rt:98:9
 after-requires : tie.Need-after-requires
 after-requires c κs = search needs
 
--- src/lib.rt:98:9
 returns-2 : tie.Need-returns-2
 returns-2 c = rw (c .before .before .if1 .taken) (after-zero (c .before .if2 .left) _ (c .after .ensures))
 
--- src/lib.rt:100:20
 sub-after : tie.Need-sub-after
 sub-after c = search needs
 
--- src/lib.rt:100:5
 after-requires-2 : tie.Need-after-requires-2
 after-requires-2 c κs = search needs
 
--- src/lib.rt:90:1
 returns-3 : tie.Need-returns-3
 returns-3 c = after-time _ _ (c .before .if1 .left) (c .after2 .ensures)
 

@@ -6,43 +6,33 @@ use borrow.Author.Needs.{needs}
 use Rattle.tries.proofs.next_try.Statement.{statement}
 use Rattle.tries.proofs.next_try.Tie as tie
 
--- src/lib.rt:120:16
 next-promise-requires : tie.Need-next-promise-requires
 next-promise-requires c κs = search needs
 
--- src/lib.rt:120:16
 add-result : tie.Need-add-result
 add-result c = search needs
 
--- src/lib.rt:120:9
 returns : tie.Need-returns
 returns c = past-times _ _ _ _ _ (c .before .if1 .taken) (c .next-promise .ensures)
 
--- src/lib.rt:122:26
 cast-next-time : tie.Need-cast-next-time
 cast-next-time c = search needs
 
--- src/lib.rt:122:9
 next-time-requires : tie.Need-next-time-requires
 next-time-requires c κs = search needs
 
--- src/lib.rt:124:16
 cast-result : tie.Need-cast-result
 cast-result c = search needs
 
--- src/lib.rt:124:9
 returns-2 : tie.Need-returns-2
 returns-2 c = at-a-time _ _ _ _ (c .before .before .before .pre .1) _ _ (omega (arith, c .before .before .if1 .left)) (c .before .next-time .ensures) (c .if2 .taken)
 
--- src/lib.rt:126:5
 next-promise-requires-2 : tie.Need-next-promise-requires-2
 next-promise-requires-2 c κs = search needs
 
--- src/lib.rt:126:5
 add-result-2 : tie.Need-add-result-2
 add-result-2 c = search needs
 
--- src/lib.rt:115:1
 returns-3 : tie.Need-returns-3
 returns-3 c = after-times _ _ _ _ (c .before .before .before .before .pre .1) _ _ _ (omega (arith, c .before .before .before .if1 .left)) (c .before .before .next-time .ensures) (c .before .if2 .left) (c .next-promise2 .ensures)
 

@@ -6,31 +6,24 @@ use borrow.Author.Needs.{needs}
 use Rattle.tries.proofs.step_at.Statement.{statement}
 use Rattle.tries.proofs.step_at.Tie as tie
 
--- src/lib.rt:46:29
 cast-execution : tie.Need-cast-execution
 cast-execution c = search needs
 
--- src/lib.rt:46:9
 execution-requires : tie.Need-execution-requires
 execution-requires c κs = search needs
 
--- src/lib.rt:46:9
 returns : tie.Need-returns
 returns c = c .execution .ensures ∙ at-time _ _ (c .before .if1 .taken)
 
--- src/lib.rt:49:16
 cast-promise : tie.Need-cast-promise
 cast-promise c = search needs
 
--- src/lib.rt:49:33
 cast-promise-2 : tie.Need-cast-promise-2
 cast-promise-2 c = search needs
 
--- src/lib.rt:49:5
 promise-requires : tie.Need-promise-requires
 promise-requires c κs = search needs
 
--- src/lib.rt:41:1
 returns-2 : tie.Need-returns-2
 returns-2 c = c .promise .ensures ∙ at-key _ _ (c .before .if1 .left)
 

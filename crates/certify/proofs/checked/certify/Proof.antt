@@ -21,8 +21,8 @@ code-of-requires c κs = let b = c .before .before in of-four _ _ (formed _ _ _ 
 thread-of-requires : tie.Need-thread-of-requires
 thread-of-requires c κs = let b = c .before .before .before in of-four _ _ (formed _ _ _ (b .before .both-formed .ensures) (not-false _ (b .if1 .left))) _ (c .before .if2 .left)
 
-certify-within-requires : tie.Need-certify-within-requires
-certify-within-requires c κs =
+is-certified-requires : tie.Need-is-certified-requires
+is-certified-requires c κs =
     let d = c .before .before in
     let b = d .before .before in
     rw (c .thread-of .ensures, c .before .code-of .ensures)
@@ -33,14 +33,14 @@ returns-3 c =
     let e = c .before .before in
     let d = e .before .before in
     let b = d .before .before in
-    certify-yes _ _ _ _ (b .before .both-formed .ensures) (not-false _ (b .if1 .left)) (d .if2 .left) _ (e .before .code-of .ensures) _ (e .thread-of .ensures) _ (c .before .certify-within .ensures) (c .if3 .taken)
+    certify-yes _ _ _ _ (b .before .both-formed .ensures) (not-false _ (b .if1 .left)) (d .if2 .left) _ (e .before .code-of .ensures) _ (e .thread-of .ensures) _ (c .before .is-certified .ensures) (c .if3 .taken)
 
 returns-4 : tie.Need-returns-4
 returns-4 c =
     let e = c .before .before in
     let d = e .before .before in
     let b = d .before .before in
-    certify-no _ _ _ _ (b .before .both-formed .ensures) (not-false _ (b .if1 .left)) (d .if2 .left) _ (e .before .code-of .ensures) _ (e .thread-of .ensures) _ (c .before .certify-within .ensures) (c .if3 .left)
+    certify-no _ _ _ _ (b .before .both-formed .ensures) (not-false _ (b .if1 .left)) (d .if2 .left) _ (e .before .code-of .ensures) _ (e .thread-of .ensures) _ (c .before .is-certified .ensures) (c .if3 .left)
 
 pub certify-spec : {M : Type 1} → statement M
 certify-spec =
@@ -51,6 +51,6 @@ certify-spec =
     returns-2
     code-of-requires
     thread-of-requires
-    certify-within-requires
+    is-certified-requires
     returns-3
     returns-4)

@@ -1,2 +1,0 @@
-pub mod Relaxed
-pub mod Answers

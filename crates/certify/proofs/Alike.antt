@@ -1,0 +1,493 @@
+-- The monotone law: what is certified is certified too with smaller views, and with other contents of registers that are not live.
+-- Assumes nothing.
+use mathlib.Core.Path.{_≡_, refl, sym, ap, ap₂, _∙_, subst}
+use mathlib.Core.Logic.{_⊎_, inl, inr}
+use mathlib.Core.Bool.{Bool, true, false, not, cond, _&&_, _||_}
+use mathlib.Core.List.{List}
+use mathlib.Core.Option.{some}
+use Prim.Native.Nat.{ℕ, zero, suc, max, _+_, _≤_, _<_}
+use native.Mathlib.Nat.{le-refl, lt-of-le-of-lt}
+use native.Mathlib.Omega.{arith}
+use lib.Dec.{T, eqb-refl, eqb, leb, ltb, eqb→eq, leb→le, le→leb, ltb→lt, lt→ltb}
+use lib.ListN.{length, getD, set, length-set}
+use borrow.Author.Tests.{ne-eqb}
+use Rattle.views.specs.Views.{viewAt, raiseAt}
+use Rattle.views.proofs.Entries.{set-both}
+use Rattle.views.proofs.Merging.{length-raise}
+use Rattle.source.specs.Program.{instrAt}
+use Rattle.source.specs.Tests.{below}
+use Rattle.source.proofs.Tests.{or-left, or-right, and-left, and-right, and-both, eq→eqb, is-true, below-at, below-all}
+use Rattle.machine.specs.State.{messageAt, append, has, with, without, raiseCap, freshRegister, freshForward}
+use Rattle.machine.specs.Rules.{next, valueOf, viewOf, viewOf₂, address, combine, computeDone, branchBy, branchDone, fenceDone, storeDone, loadPre, readable, noneNewer, newer, readView, ifAcquire, loadViews, loadDone, loadAt, storePre, promised, ifRelease, storeViews, storeAt, fenceViews, execute, addPromise}
+use Rattle.machine.proofs.Effects.{loadLocation, loadPreView, loadPostView, storeLocation, Promised, Effect, computed, loaded, stored, branched, fenced, effect}
+use Rattle.live.specs.Live.{isRegister, eitherRegister, uses, locates, weighs, writes, skips, Live, here, later}
+use Rattle.certify.specs.Below.{Code, Operand, Constant, OfRegister, ComputeMode, LoadMode, StoreMode, FenceMode, Instr, Compute, Load, Store, Branch, Fence, Memory, Register, Forward, Views, Thread}
+use Rattle.source.specs.declared.LoadMode.the-variants.{PlainLoad, Acquire, WeakAcquire}
+use Rattle.source.specs.declared.StoreMode.the-variants.{PlainStore, Release}
+use Rattle.source.specs.declared.FenceMode.the-variants.{DmbSy, DmbLd, DmbSt, Isb}
+use Rattle.certify.proofs.Iff.{certified-iff}
+use Rattle.certify.specs.Runs.{Comes, done, by, own}
+use Rattle.certify.specs.Tries.{Matches}
+use Rattle.certify.specs.Certify.{messageOf, certified}
+
+-- views of two lists raised at one place
+raise-both : (c d : List ℕ) (i v w : ℕ) → length c ≡ length d → ((k : ℕ) → viewAt c k ≤ viewAt d k) → v ≤ w → (k : ℕ) → viewAt (raiseAt c i v) k ≤ viewAt (raiseAt d i w) k
+raise-both c d i v w e h l = set-both (λ j x y. x ≤ y) 0 _ _ c d i e (λ k n. h k) (le-refl 0) (let q = h i in omega arith)
+
+-- ---- the six views
+pub record Lower (v w : Views) : Type 0 where
+  pub rOld-low : v .rOld ≤ w .rOld
+  pub wOld-low : v .wOld ≤ w .wOld
+  pub rNew-low : v .rNew ≤ w .rNew
+  pub wNew-low : v .wNew ≤ w .wNew
+  pub cap-low : v .cap ≤ w .cap
+  pub rel-low : v .rel ≤ w .rel
+
+-- the forward pairs at l: the same time, with a view that is at most the other
+abbrev pub Forwarded : List Forward → List Forward → ℕ → Type 0
+Forwarded xs ys l = ((getD xs l freshForward) .time ≡ (getD ys l freshForward) .time) × ((getD xs l freshForward) .view ≤ (getD ys l freshForward) .view)
+
+-- register k holds the same as far as it matters at position n: the value if a way on weighs it, modulo 16 if one takes it for a location, and no larger view
+pub record Agree (c : Code) (k n : ℕ) (x y : Register) : Type 0 where
+  pub same : Live weighs c k n → x .value ≡ y .value
+  pub near : Live locates c k n → address (x .value) ≡ address (y .value)
+  pub low : Live uses c k n → x .view ≤ y .view
+
+-- ALIKE: as s', but for what registers hold that does not matter, and with views that are at most those of s'
+pub record Alike (c : Code) (s s' : Thread) : Type 0 where
+  pub same-position : s .position ≡ s' .position
+  pub same-promises : s .promises ≡ s' .promises
+  pub registers-long : length (s .registers) ≡ length (s' .registers)
+  pub registers-agree : (k : ℕ) → Agree c k (s' .position) (getD (s .registers) k freshRegister) (getD (s' .registers) k freshRegister)
+  pub coherence-long : length (s .coherence) ≡ length (s' .coherence)
+  pub coherence-low : (l : ℕ) → viewAt (s .coherence) l ≤ viewAt (s' .coherence) l
+  pub forward-long : length (s .forward) ≡ length (s' .forward)
+  pub forward-same : (l : ℕ) → Forwarded (s .forward) (s' .forward) l
+  pub views-low : Lower (s .views) (s' .views)
+
+-- ---- what the rules compute, with smaller views
+near-sum : (a a' b b' : ℕ) → address a ≡ address a' → address b ≡ address b' → address (a + b) ≡ address (a' + b')
+near-sum a a' b b' p q = omega arith
+
+max-low : (a b x y : ℕ) → a ≤ b → x ≤ y → max a x ≤ max b y
+max-low a b x y l r = omega arith
+
+pre-low : (k : LoadMode) (va va' : ℕ) (v w : Views) → va ≤ va' → Lower v w → loadPre k va v ≤ loadPre k va' w
+pre-low PlainLoad va va' v w l o = let a = o .rNew-low in omega arith
+pre-low Acquire va va' v w l o = let a = o .rNew-low in let b = o .rel-low in omega arith
+pre-low WeakAcquire va va' v w l o = let a = o .rNew-low in omega arith
+
+store-pre-low : (k : StoreMode) (va va' vd vd' : ℕ) (v w : Views) → va ≤ va' → vd ≤ vd' → Lower v w → storePre k va vd v ≤ storePre k va' vd' w
+store-pre-low PlainStore va va' vd vd' v w l d o = max-low _ _ _ _ (max-low _ _ _ _ l d) (max-low _ _ _ _ (o .wNew-low) (o .cap-low))
+store-pre-low Release va va' vd vd' v w l d o =
+    max-low _ _ _ _ (max-low _ _ _ _ (max-low _ _ _ _ l d) (max-low _ _ _ _ (o .wNew-low) (o .cap-low))) (max-low _ _ _ _ (o .rOld-low) (o .wOld-low))
+
+acquire-low : (k : LoadMode) (p q : ℕ) → p ≤ q → ifAcquire k p ≤ ifAcquire k q
+acquire-low PlainLoad p q l = le-refl 0
+acquire-low Acquire p q l = l
+acquire-low WeakAcquire p q l = l
+
+load-views-low : (k : LoadMode) (va va' p q : ℕ) (v w : Views) → va ≤ va' → p ≤ q → Lower v w → Lower (loadViews k va p v) (loadViews k va' q w)
+load-views-low k va va' p q v w l r o =
+    let z = acquire-low k p q r in
+    record {
+      rOld-low = max-low _ _ _ _ (o .rOld-low) r;
+      wOld-low = o .wOld-low;
+      rNew-low = max-low _ _ _ _ (o .rNew-low) z;
+      wNew-low = max-low _ _ _ _ (o .wNew-low) z;
+      cap-low = max-low _ _ _ _ (o .cap-low) l;
+      rel-low = o .rel-low;
+    }
+
+store-views-low : (k : StoreMode) (t va va' : ℕ) (v w : Views) → va ≤ va' → Lower v w → Lower (storeViews k t va v) (storeViews k t va' w)
+store-views-low k t va va' v w l o =
+    record {
+      rOld-low = o .rOld-low;
+      wOld-low = max-low _ _ _ _ (o .wOld-low) (le-refl t);
+      rNew-low = o .rNew-low;
+      wNew-low = o .wNew-low;
+      cap-low = max-low _ _ _ _ (o .cap-low) l;
+      rel-low = max-low _ _ _ _ (o .rel-low) (le-refl (ifRelease k t));
+    }
+
+cap-views-low : (va va' : ℕ) (v w : Views) → va ≤ va' → Lower v w → Lower (raiseCap va v) (raiseCap va' w)
+cap-views-low va va' v w l o =
+    record { rOld-low = o .rOld-low; wOld-low = o .wOld-low; rNew-low = o .rNew-low; wNew-low = o .wNew-low; cap-low = max-low _ _ _ _ (o .cap-low) l; rel-low = o .rel-low }
+
+fence-views-low : (k : FenceMode) (v w : Views) → Lower v w → Lower (fenceViews k v) (fenceViews k w)
+fence-views-low DmbSy v w o =
+    let z = max-low _ _ _ _ (o .rOld-low) (o .wOld-low) in
+    record { rOld-low = o .rOld-low; wOld-low = o .wOld-low; rNew-low = max-low _ _ _ _ (o .rNew-low) z; wNew-low = max-low _ _ _ _ (o .wNew-low) z; cap-low = o .cap-low; rel-low = o .rel-low }
+fence-views-low DmbLd v w o =
+    let z = o .rOld-low in
+    record { rOld-low = o .rOld-low; wOld-low = o .wOld-low; rNew-low = max-low _ _ _ _ (o .rNew-low) z; wNew-low = max-low _ _ _ _ (o .wNew-low) z; cap-low = o .cap-low; rel-low = o .rel-low }
+fence-views-low DmbSt v w o =
+    record { rOld-low = o .rOld-low; wOld-low = o .wOld-low; rNew-low = o .rNew-low; wNew-low = max-low _ _ _ _ (o .wNew-low) (o .wOld-low); cap-low = o .cap-low; rel-low = o .rel-low }
+fence-views-low Isb v w o =
+    record { rOld-low = o .rOld-low; wOld-low = o .wOld-low; rNew-low = max-low _ _ _ _ (o .rNew-low) (o .cap-low); wNew-low = o .wNew-low; cap-low = o .cap-low; rel-low = o .rel-low }
+
+not-both : (a b : Bool) → (T a → T b) → T (not b) → T (not a)
+not-both true true f h = h
+not-both true false f h = absurd (f tt)
+not-both false b f h = tt
+
+-- no newer message: for a smaller span, and for a later time
+none-newer-low : (m : Memory) (l t t' v v' : ℕ) → t' ≤ t → v ≤ v' → T (noneNewer m l t' v') → T (noneNewer m l t v)
+unfolding noneNewer
+none-newer-low m l t t' v v' tl vl h = below-all _ (m .count) (λ k kl. not-both (newer m l t v (suc k)) (newer m l t' v' (suc k)) (wider k) (below-at _ (m .count) h k kl))
+  where
+    wider : (k : ℕ) → T (newer m l t v (suc k)) → T (newer m l t' v' (suc k))
+    wider k n =
+        let a : T (eqb ((messageAt m (suc k)) .location) l) = search (and-left, and-right) in
+        let b : T (ltb t (suc k)) = search (and-left, and-right) in
+        let d : T (leb (suc k) v) = search (and-left, and-right) in
+        let b' = ltb→lt t (suc k) b in
+        let d' = leb→le (suc k) v d in
+        let x : T (ltb t' (suc k)) = lt→ltb t' (suc k) (omega arith) in
+        let y : T (leb (suc k) v') = le→leb (suc k) v' (omega arith) in
+        and-both (eqb ((messageAt m (suc k)) .location) l && ltb t' (suc k)) (leb (suc k) v') (and-both (eqb ((messageAt m (suc k)) .location) l) (ltb t' (suc k)) a x) y
+
+view-low : (t f f' v v' : ℕ) → f ≡ f' → v ≤ v' → cond (eqb t f) v t ≤ cond (eqb t f') v' t
+view-low t f f' v v' e l = rw e (go (eqb t f'))
+  where
+    go : (b : Bool) → cond b v t ≤ cond b v' t
+    go true = l
+    go false = le-refl t
+
+-- ---- an instruction that executes, forwards
+promised-test : {m : Memory} {t l v : ℕ} {s : Thread} → Promised m t l v s → T (promised m t l v s)
+unfolding promised
+promised-test {m} {t} {l} {v} {s} p =
+    let a = has (s .promises) t in
+    let b = leb t (m .count) in
+    let c = eqb ((messageAt m t) .location) l in
+    let d = eqb ((messageAt m t) .value) v in
+    and-both (a && b && c) d (and-both (a && b) c (and-both a b (p .out) (le→leb t (m .count) (p .in-memory))) (eq→eqb (p .at-location))) (eq→eqb (p .at-value))
+
+pub executes : {m : Memory} {t : ℕ} {s : Thread} {x : Instr} {s' : Thread} → Effect m t s x s' → execute x m t s ≡ next s'
+unfolding execute loadAt storeAt
+executes {t = t} (computed e) = rw (is-true (eqb t 0) (eq→eqb e))
+executes {m} {t} {s} (loaded {k} {r} {a} {b} d n) =
+    rw (is-true (readable m (loadLocation s a b) t) d, is-true (noneNewer m (loadLocation s a b) t (max (loadPreView k s a b) (viewAt (s .coherence) (loadLocation s a b)))) n)
+executes {m} {t} {s} (stored {k} {a} {d} p x y) =
+    rw (is-true (promised m t (storeLocation s a) (valueOf s d) s) (promised-test p), is-true (ltb (storePre k (viewOf s a) (viewOf s d) (s .views)) t) (lt→ltb _ t x), is-true (ltb (viewAt (s .coherence) (storeLocation s a)) t) (lt→ltb _ t y))
+executes {t = t} (branched e) = rw (is-true (eqb t 0) (eq→eqb e))
+executes {t = t} (fenced e) = rw (is-true (eqb t 0) (eq→eqb e))
+
+-- ---- one instruction on both threads
+-- a register agrees with itself
+agree-self : (c : Code) (k n : ℕ) (x : Register) → Agree c k n x x
+agree-self c k n x = record { same = λ l. refl; near = λ l. refl; low = λ l. le-refl _ }
+
+module _ (c : Code) (s s' : Thread) (h : Alike c s s') (x : Instr) (g : instrAt c (s' .position) ≡ some x) where
+  -- an operand that the instruction reads, in each of the three ways
+  operand-low : (a : Operand) → ((k : ℕ) → T (isRegister k a) → T (uses k x)) → viewOf s a ≤ viewOf s' a
+  unfolding isRegister
+  operand-low (Constant n) u = le-refl 0
+  operand-low (OfRegister r) u = h .registers-agree r .low (here x g (u r (eqb-refl r)))
+
+  operand-same : (a : Operand) → ((k : ℕ) → T (isRegister k a) → T (weighs k x)) → valueOf s a ≡ valueOf s' a
+  unfolding isRegister
+  operand-same (Constant n) u = refl
+  operand-same (OfRegister r) u = h .registers-agree r .same (here x g (u r (eqb-refl r)))
+
+  operand-near : (a : Operand) → ((k : ℕ) → T (isRegister k a) → T (locates k x)) → address (valueOf s a) ≡ address (valueOf s' a)
+  unfolding isRegister
+  operand-near (Constant n) u = refl
+  operand-near (OfRegister r) u = h .registers-agree r .near (here x g (u r (eqb-refl r)))
+
+  -- a register that is not written, at a position that may come next
+  kept-register : (n : ℕ) → (n ≡ s' .position + 1) ⊎ (n ≡ s' .position + (skips x + 1)) → (k : ℕ) → (T (writes k x) → ⊥)
+      → Agree c k n (getD (s .registers) k freshRegister) (getD (s' .registers) k freshRegister)
+  kept-register n f k w =
+      let q = h .registers-agree k in
+      record { same = λ l. q .same (later x n g w f l); near = λ l. q .near (later x n g w f l); low = λ l. q .low (later x n g w f l) }
+
+  -- the registers, where r is written
+  set-registers : (r : ℕ) → ((k : ℕ) → T (writes k x) → k ≡ r) → (y y' : Register) → Agree c r (s' .position + 1) y y' → (k : ℕ)
+      → Agree c k (s' .position + 1) (getD (set (s .registers) r y) k freshRegister) (getD (set (s' .registers) r y') k freshRegister)
+  set-registers r only y y' e =
+      set-both (λ (k : ℕ) (a b : Register). Agree c k (s' .position + 1) a b) freshRegister y y' (s .registers) (s' .registers) r (h .registers-long)
+      (λ k n. kept-register (s' .position + 1) (inl refl) k (λ t. n (only k t))) (agree-self c r (s' .position + 1) freshRegister) e
+
+-- what the thread s makes of an instruction that s' executed: it executes too, and the threads stay alike
+record Followed (c : Code) (m : Memory) (t : ℕ) (s : Thread) (x : Instr) (u' : Thread) : Type 0 where
+  after : Thread
+  does : Effect m t s x after
+  alike : Alike c after u'
+
+-- a load: s at time t', s' at time t
+module _ (c : Code) (s s' : Thread) (h : Alike c s s') (k : LoadMode) (r : ℕ) (a b : Operand) (g : instrAt c (s' .position) ≡ some (Load k r a b)) (m : Memory) where
+  same-location : loadLocation s a b ≡ loadLocation s' a b
+  unfolding locates eitherRegister
+  same-location =
+      near-sum _ _ _ _ (operand-near c s s' h (Load k r a b) g a (λ j t. or-left (isRegister j a) (isRegister j b) t))
+      (operand-near c s s' h (Load k r a b) g b (λ j t. or-right (isRegister j a) (isRegister j b) t))
+
+  address-low : viewOf₂ s a b ≤ viewOf₂ s' a b
+  unfolding uses eitherRegister
+  address-low =
+      max-low _ _ _ _ (operand-low c s s' h (Load k r a b) g a (λ j t. or-left (isRegister j a) (isRegister j b) t))
+      (operand-low c s s' h (Load k r a b) g b (λ j t. or-right (isRegister j a) (isRegister j b) t))
+
+  pre-view-low : loadPreView k s a b ≤ loadPreView k s' a b
+  pre-view-low = pre-low k _ _ (s .views) (s' .views) address-low (h .views-low)
+
+  load-writes : (j : ℕ) → T (writes j (Load k r a b)) → j ≡ r
+  unfolding writes
+  load-writes j t = sym (eqb→eq r j t)
+
+  -- what two loads leave, of values that are the same as far as it matters, the one with a smaller post-view
+  load-alike : (t t' post post' : ℕ) → Matches c m r (s' .position + 1) t t' → post ≤ post'
+      → Alike c (loadDone k r m t (loadLocation s a b) (viewOf₂ s a b) post s) (loadDone k r m t' (loadLocation s' a b) (viewOf₂ s' a b) post' s')
+  load-alike t t' post post' same low =
+      record {
+        same-position = ap (λ (n : ℕ). n + 1) (h .same-position);
+        same-promises = h .same-promises;
+        registers-long = length-set (s .registers) r _ ∙ h .registers-long ∙ sym (length-set (s' .registers) r _);
+        registers-agree = set-registers c s s' h (Load k r a b) g r load-writes _ _ (record { same = same .same; near = same .near; low = λ l. low });
+        coherence-long = length-raise (s .coherence) _ _ ∙ h .coherence-long ∙ sym (length-raise (s' .coherence) _ _);
+        coherence-low = subst (λ (l : ℕ). (j : ℕ) → viewAt (raiseAt (s .coherence) l post) j ≤ viewAt (raiseAt (s' .coherence) (loadLocation s' a b) post') j) (sym same-location)
+            (raise-both (s .coherence) (s' .coherence) (loadLocation s' a b) post post' (h .coherence-long) (h .coherence-low) low);
+        forward-long = h .forward-long;
+        forward-same = h .forward-same;
+        views-low = load-views-low k _ _ post post' (s .views) (s' .views) address-low low (h .views-low);
+      }
+
+  view-here : (t : ℕ) → readView s (loadLocation s a b) t ≤ readView s' (loadLocation s' a b) t
+  view-here t =
+      subst (λ (l : ℕ). readView s l t ≤ readView s' (loadLocation s' a b) t) (sym same-location)
+      (let f = h .forward-same (loadLocation s' a b) in view-low t _ _ _ _ (f .0) (f .1))
+
+  load-follows : (t : ℕ) → T (readable m (loadLocation s' a b) t) → T (noneNewer m (loadLocation s' a b) t (max (loadPreView k s' a b) (viewAt (s' .coherence) (loadLocation s' a b))))
+      → Followed c m t s (Load k r a b) (loadDone k r m t (loadLocation s' a b) (viewOf₂ s' a b) (loadPostView k s' a b t) s')
+  load-follows t d n =
+      record {
+        after = loadDone k r m t (loadLocation s a b) (viewOf₂ s a b) (loadPostView k s a b t) s;
+        does = loaded (subst (λ (l : ℕ). T (readable m l t)) (sym same-location) d)
+            (subst (λ (l : ℕ). T (noneNewer m l t (max (loadPreView k s a b) (viewAt (s .coherence) l)))) (sym same-location)
+            (none-newer-low m (loadLocation s' a b) t t _ _ (le-refl t) (max-low _ _ _ _ pre-view-low (h .coherence-low (loadLocation s' a b))) n));
+        alike = load-alike t t _ _ (record { same = λ l. refl; near = λ l. refl }) (max-low _ _ _ _ pre-view-low (view-here t));
+      }
+
+module _ (c : Code) (s s' : Thread) (h : Alike c s s') (k : StoreMode) (a d : Operand) (g : instrAt c (s' .position) ≡ some (Store k a d)) where
+  address-view-low : viewOf s a ≤ viewOf s' a
+  unfolding uses eitherRegister
+  address-view-low = operand-low c s s' h (Store k a d) g a (λ j t. or-left (isRegister j a) (isRegister j d) t)
+
+  data-view-low : viewOf s d ≤ viewOf s' d
+  unfolding uses eitherRegister
+  data-view-low = operand-low c s s' h (Store k a d) g d (λ j t. or-right (isRegister j a) (isRegister j d) t)
+
+  pub same-place : storeLocation s a ≡ storeLocation s' a
+  unfolding locates
+  same-place = operand-near c s s' h (Store k a d) g a (λ j t. t)
+
+  pub same-data : valueOf s d ≡ valueOf s' d
+  unfolding weighs
+  same-data = operand-same c s s' h (Store k a d) g d (λ j t. t)
+
+  pub store-view-low : storePre k (viewOf s a) (viewOf s d) (s .views) ≤ storePre k (viewOf s' a) (viewOf s' d) (s' .views)
+  store-view-low = store-pre-low k _ _ _ _ (s .views) (s' .views) address-view-low data-view-low (h .views-low)
+
+  store-writes : (j : ℕ) → T (writes j (Store k a d)) → ⊥
+  unfolding writes
+  store-writes j t = t
+
+  store-follows : (m : Memory) (t : ℕ) → Promised m t (storeLocation s' a) (valueOf s' d) s' → storePre k (viewOf s' a) (viewOf s' d) (s' .views) < t → viewAt (s' .coherence) (storeLocation s' a) < t
+      → Followed c m t s (Store k a d) (storeDone k t (storeLocation s' a) (viewOf s' a) (viewOf s' d) s')
+  store-follows m t p low below =
+      record {
+        after = storeDone k t (storeLocation s a) (viewOf s a) (viewOf s d) s;
+        does = stored
+            (record {
+              out = subst (λ (q : ℕ). T (has q t)) (sym (h .same-promises)) (p .out);
+              in-memory = p .in-memory;
+              at-location = p .at-location ∙ sym same-place;
+              at-value = p .at-value ∙ sym same-data;
+            })
+            (lt-of-le-of-lt store-view-low low)
+            (subst (λ (l : ℕ). viewAt (s .coherence) l < t) (sym same-place) (lt-of-le-of-lt (h .coherence-low (storeLocation s' a)) below));
+        alike = record {
+          same-position = ap (λ (n : ℕ). n + 1) (h .same-position);
+          same-promises = ap (λ (q : ℕ). without q t) (h .same-promises);
+          registers-long = h .registers-long;
+          registers-agree = λ j. kept-register c s s' h (Store k a d) g (s' .position + 1) (inl refl) j (store-writes j);
+          coherence-long = length-raise (s .coherence) _ _ ∙ h .coherence-long ∙ sym (length-raise (s' .coherence) _ _);
+          coherence-low = subst (λ (l : ℕ). (j : ℕ) → viewAt (raiseAt (s .coherence) l t) j ≤ viewAt (raiseAt (s' .coherence) (storeLocation s' a) t) j) (sym same-place)
+              (raise-both (s .coherence) (s' .coherence) (storeLocation s' a) t t (h .coherence-long) (h .coherence-low) (le-refl t));
+          forward-long = length-set (s .forward) _ _ ∙ h .forward-long ∙ sym (length-set (s' .forward) _ _);
+          forward-same = subst (λ (l : ℕ). (j : ℕ) → Forwarded (set (s .forward) l (record { time = t; view = max (viewOf s a) (viewOf s d) })) (set (s' .forward) (storeLocation s' a) (record { time = t; view = max (viewOf s' a) (viewOf s' d) })) j) (sym same-place)
+              (set-both (λ (j : ℕ) (x y : Forward). (x .time ≡ y .time) × (x .view ≤ y .view)) freshForward _ _ (s .forward) (s' .forward) (storeLocation s' a) (h .forward-long) (λ j n. h .forward-same j) (refl, le-refl 0)
+              (refl, max-low _ _ _ _ address-view-low data-view-low));
+          views-low = store-views-low k t _ _ (s .views) (s' .views) address-view-low (h .views-low);
+        };
+      }
+
+module _ (c : Code) (s s' : Thread) (h : Alike c s s') where
+  compute-follows : (k : ComputeMode) (r : ℕ) (a b : Operand) (m : Memory) (t : ℕ) → instrAt c (s' .position) ≡ some (Compute k r a b) → t ≡ 0
+      → Followed c m t s (Compute k r a b) (computeDone k r a b s')
+  unfolding uses weighs writes eitherRegister
+  compute-follows k r a b m t g e =
+      let x = Compute k r a b in
+      let inA : (j : ℕ) → T (isRegister j a) → T (isRegister j a || isRegister j b) = λ j u. or-left (isRegister j a) (isRegister j b) u in
+      let inB : (j : ℕ) → T (isRegister j b) → T (isRegister j a || isRegister j b) = λ j u. or-right (isRegister j a) (isRegister j b) u in
+      let v = ap₂ (combine k) (operand-same c s s' h x g a inA) (operand-same c s s' h x g b inB) in
+      let low = max-low _ _ _ _ (operand-low c s s' h x g a inA) (operand-low c s s' h x g b inB) in
+      record {
+        after = computeDone k r a b s;
+        does = computed e;
+        alike = record {
+          same-position = ap (λ (n : ℕ). n + 1) (h .same-position);
+          same-promises = h .same-promises;
+          registers-long = length-set (s .registers) r _ ∙ h .registers-long ∙ sym (length-set (s' .registers) r _);
+          registers-agree = set-registers c s s' h x g r (λ j u. sym (eqb→eq r j u)) _ _ (record { same = λ l. v; near = λ l. ap address v; low = λ l. low });
+          coherence-long = h .coherence-long;
+          coherence-low = h .coherence-low;
+          forward-long = h .forward-long;
+          forward-same = h .forward-same;
+          views-low = h .views-low;
+        };
+      }
+
+  branch-next : (o : Bool) (n : ℕ) (a b : Operand) → (s' .position + branchBy o n ≡ s' .position + 1) ⊎ (s' .position + branchBy o n ≡ s' .position + (skips (Branch n a b) + 1))
+  unfolding skips
+  branch-next true n a b = inr refl
+  branch-next false n a b = inl refl
+
+  -- a branch that skips something weighs its operands; one that skips nothing goes on at one place
+  same-way : (n : ℕ) (a b : Operand) → instrAt c (s' .position) ≡ some (Branch n a b) → branchBy (eqb (valueOf s a) (valueOf s b)) n ≡ branchBy (eqb (valueOf s' a) (valueOf s' b)) n
+  unfolding weighs eitherRegister
+  same-way zero a b g = one (eqb (valueOf s a) (valueOf s b)) (eqb (valueOf s' a) (valueOf s' b))
+    where
+      one : (o o' : Bool) → branchBy o 0 ≡ branchBy o' 0
+      one true true = refl
+      one true false = refl
+      one false true = refl
+      one false false = refl
+  same-way (suc n) a b g =
+      let x = Branch (suc n) a b in
+      let some-skipped : T (not (eqb (suc n) 0)) = subst (λ (o : Bool). T (not o)) (sym (ne-eqb (suc n) 0 (λ z. omega arith))) tt in
+      ap₂ (λ (v w : ℕ). branchBy (eqb v w) (suc n))
+      (operand-same c s s' h x g a (λ j u. and-both (not (eqb (suc n) 0)) (isRegister j a || isRegister j b) some-skipped (or-left (isRegister j a) (isRegister j b) u)))
+      (operand-same c s s' h x g b (λ j u. and-both (not (eqb (suc n) 0)) (isRegister j a || isRegister j b) some-skipped (or-right (isRegister j a) (isRegister j b) u)))
+
+  branch-follows : (n : ℕ) (a b : Operand) (m : Memory) (t : ℕ) → instrAt c (s' .position) ≡ some (Branch n a b) → t ≡ 0 → Followed c m t s (Branch n a b) (branchDone n a b s')
+  unfolding uses writes eitherRegister
+  branch-follows n a b m t g e =
+      let x = Branch n a b in
+      let low = max-low _ _ _ _ (operand-low c s s' h x g a (λ j u. or-left (isRegister j a) (isRegister j b) u)) (operand-low c s s' h x g b (λ j u. or-right (isRegister j a) (isRegister j b) u)) in
+      record {
+        after = branchDone n a b s;
+        does = branched e;
+        alike = record {
+          same-position = ap₂ (λ (i j : ℕ). i + j) (h .same-position) (same-way n a b g);
+          same-promises = h .same-promises;
+          registers-long = h .registers-long;
+          registers-agree = λ j. kept-register c s s' h x g _ (branch-next (eqb (valueOf s' a) (valueOf s' b)) n a b) j (λ u. u);
+          coherence-long = h .coherence-long;
+          coherence-low = h .coherence-low;
+          forward-long = h .forward-long;
+          forward-same = h .forward-same;
+          views-low = cap-views-low _ _ (s .views) (s' .views) low (h .views-low);
+        };
+      }
+
+  fence-follows : (k : FenceMode) (m : Memory) (t : ℕ) → instrAt c (s' .position) ≡ some (Fence k) → t ≡ 0 → Followed c m t s (Fence k) (fenceDone k s')
+  unfolding writes
+  fence-follows k m t g e =
+      record {
+        after = fenceDone k s;
+        does = fenced e;
+        alike = record {
+          same-position = ap (λ (n : ℕ). n + 1) (h .same-position);
+          same-promises = h .same-promises;
+          registers-long = h .registers-long;
+          registers-agree = λ j. kept-register c s s' h (Fence k) g (s' .position + 1) (inl refl) j (λ u. u);
+          coherence-long = h .coherence-long;
+          coherence-low = h .coherence-low;
+          forward-long = h .forward-long;
+          forward-same = h .forward-same;
+          views-low = fence-views-low k (s .views) (s' .views) (h .views-low);
+        };
+      }
+
+  follows : {m : Memory} {t : ℕ} {x : Instr} {u' : Thread} → instrAt c (s' .position) ≡ some x → Effect m t s' x u' → Followed c m t s x u'
+  follows {m} {t} g (computed {k} {r} {a} {b} e) = compute-follows k r a b m t g e
+  follows {m} {t} g (loaded {k} {r} {a} {b} d n) = load-follows c s s' h k r a b g m t d n
+  follows {m} {t} g (stored {k} {a} {d} p x y) = store-follows c s s' h k a d g m t p x y
+  follows {m} {t} g (branched {n} {a} {b} e) = branch-follows n a b m t g e
+  follows {m} {t} g (fenced {k} e) = fence-follows k m t g e
+
+-- ---- certification
+-- a thread is alike to itself
+alike-self : (c : Code) (s : Thread) → Alike c s s
+alike-self c s =
+    record {
+      same-position = refl;
+      same-promises = refl;
+      registers-long = refl;
+      registers-agree = λ k. agree-self c k _ _;
+      coherence-long = refl;
+      coherence-low = λ l. le-refl _;
+      forward-long = refl;
+      forward-same = λ l. (refl, le-refl _);
+      views-low = record { rOld-low = le-refl _; wOld-low = le-refl _; rNew-low = le-refl _; wNew-low = le-refl _; cap-low = le-refl _; rel-low = le-refl _ };
+    }
+
+with-promise : {c : Code} {s s' : Thread} (m : Memory) → Alike c s s' → Alike c (addPromise m s) (addPromise m s')
+with-promise m h =
+    record {
+      same-position = h .same-position;
+      same-promises = ap (λ (p : ℕ). with p (m .count)) (h .same-promises);
+      registers-long = h .registers-long;
+      registers-agree = h .registers-agree;
+      coherence-long = h .coherence-long;
+      coherence-low = h .coherence-low;
+      forward-long = h .forward-long;
+      forward-same = h .forward-same;
+      views-low = h .views-low;
+    }
+
+-- the message of a store is the same
+same-message : (c : Code) (i : ℕ) (s s' : Thread) → Alike c s s' → (x : Instr) → instrAt c (s' .position) ≡ some x → messageOf i s x ≡ messageOf i s' x
+same-message c i s s' h (Compute k r a b) g = refl
+same-message c i s s' h (Load k r a b) g = refl
+same-message c i s s' h (Store k a d) g = ap₂ (λ (l v : ℕ). some (record { location = l; value = v; thread = i })) (same-place c s s' h k a d g) (same-data c s s' h k a d g)
+same-message c i s s' h (Branch n a b) g = refl
+same-message c i s s' h (Fence k) g = refl
+
+-- THE MONOTONE LAW: what a thread alone can come to, one alike can come to, if the goal passes with what is alike
+pub comes-alike : {Goal : Thread → Type 0} {Room : Memory → Type 0} {c : Code} {i : ℕ} → ((s s' : Thread) → Alike c s s' → Goal s' → Goal s)
+    → {m : Memory} {s s' : Thread} → Alike c s s' → Comes Goal Room c i m s' → Comes Goal Room c i m s
+comes-alike pass {m} {s} {s'} h (done e) = done (pass s s' h e)
+comes-alike {c = c} pass {m} {s} {s'} h (by x t u g tl e r) =
+    let w = follows c s s' h g (effect x m t s' u e) in
+    by x t (w .after) (ap (instrAt c) (h .same-position) ∙ g) tl (executes (w .does)) (comes-alike pass (w .alike) r)
+comes-alike {c = c} {i} pass {m} {s} {s'} h (own x w u g gw room e r) =
+    let m' = append m w in
+    let f = follows c (addPromise m' s) (addPromise m' s') (with-promise m' h) g (effect x m' (m' .count) (addPromise m' s') u e) in
+    own x w (f .after) (ap (instrAt c) (h .same-position) ∙ g) (same-message c i s s' h x g ∙ gw) room (executes (f .does)) (comes-alike pass (f .alike) r)
+
+-- so it is for certification
+pub monotone : (c : Code) (i : ℕ) (m : Memory) (s s' : Thread) → Alike c s s' → T (certified c i m s') → T (certified c i m s)
+monotone c i m s s' h t =
+    certified-iff c i m s .1 (comes-alike (λ u u' a e. a .same-promises ∙ e) h (certified-iff c i m s' .0 t))
+
+-- ---- tries of a load at two times
+module _ (c : Code) (m : Memory) (s : Thread) (k : LoadMode) (r : ℕ) (a b : Operand) (at : instrAt c (s .position) ≡ some (Load k r a b)) where
+  -- a load that executes at f executes at each later time that can be read
+  pub later-done : (f u : ℕ) (s' : Thread) → execute (Load k r a b) m f s ≡ next s' → f ≤ u → T (readable m (loadLocation s a b) u)
+      → execute (Load k r a b) m u s ≡ next (loadDone k r m u (loadLocation s a b) (viewOf₂ s a b) (loadPostView k s a b u) s)
+  later-done f u s' e l d = go s' (effect (Load k r a b) m f s s' e)
+    where
+      go : (x : Thread) → Effect m f s (Load k r a b) x → execute (Load k r a b) m u s ≡ next (loadDone k r m u (loadLocation s a b) (viewOf₂ s a b) (loadPostView k s a b u) s)
+      go x (loaded d' q) = executes (loaded {k = k} {r = r} {a = a} {b = b} d (none-newer-low m (loadLocation s a b) u f _ _ l (le-refl _) q))
+
+  -- A TRY IN VAIN: what u reads is the same as what t reads, as far as it matters, and its read view is no larger; then what t leaves is alike to what u leaves, with larger views
+  pub in-vain : (u t : ℕ) (s' : Thread) → Matches c m r (s .position + 1) u t → readView s (loadLocation s a b) u ≤ readView s (loadLocation s a b) t → execute (Load k r a b) m t s ≡ next s'
+      → Alike c (loadDone k r m u (loadLocation s a b) (viewOf₂ s a b) (loadPostView k s a b u) s) s'
+  in-vain u t s' same low e = go s' (effect (Load k r a b) m t s s' e)
+    where
+      go : (x : Thread) → Effect m t s (Load k r a b) x → Alike c (loadDone k r m u (loadLocation s a b) (viewOf₂ s a b) (loadPostView k s a b u) s) x
+      go x (loaded d q) = load-alike c s s (alike-self c s) k r a b at m u t (loadPostView k s a b u) (loadPostView k s a b t) same (max-low _ _ _ _ (le-refl (loadPreView k s a b)) low)

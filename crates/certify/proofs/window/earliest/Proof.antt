@@ -1,0 +1,100 @@
+-- `certify::window::earliest` meets its contract.
+-- Assumes nothing.
+use mathlib.Core.Path.{sym, subst, _∙_}
+use native.Mathlib.Omega.{arith}
+use lib.Dec.{T}
+use borrow.Author.Tests.{eqb-true, eqb-false}
+use Rattle.machine.proofs.Sets.{has-none}
+use Rattle.certify.proofs.Trying.{load-earliest, store-earliest}
+use borrow.Author.Needs.{needs}
+use Rattle.certify.proofs.window.earliest.Statement.{statement}
+use Rattle.certify.proofs.window.earliest.Tie as tie
+
+enum-known-x : tie.Need-enum-known-x
+enum-known-x c = search needs
+
+value-of-requires : tie.Need-value-of-requires
+value-of-requires c κs = search needs
+
+value-of-requires-2 : tie.Need-value-of-requires-2
+value-of-requires-2 c κs = search needs
+
+address-of-sum-requires : tie.Need-address-of-sum-requires
+address-of-sum-requires c κs = search needs
+
+view-of-both-requires : tie.Need-view-of-both-requires
+view-of-both-requires c κs = search needs
+
+load-pre-requires : tie.Need-load-pre-requires
+load-pre-requires c κs = search needs
+
+coherence-at-requires : tie.Need-coherence-at-requires
+coherence-at-requires c κs = search needs
+
+larger-requires : tie.Need-larger-requires
+larger-requires c κs = search needs
+
+newest-requires : tie.Need-newest-requires
+newest-requires c κs = search needs
+
+enum-told : tie.Need-enum-told
+enum-told c = search needs
+
+is-empty-requires : tie.Need-is-empty-requires
+is-empty-requires c κs = search needs
+
+returns : tie.Need-returns
+returns c = store-earliest _ _ _ _ _ _ (c .before .before .enum-told .given .1) _ (omega arith) (λ t l z. has-none _ t (eqb-true _ _ (sym (c .before .is-empty .ensures) ∙ c .if1 .taken)) z)
+
+first-requires : tie.Need-first-requires
+first-requires c κs = eqb-false _ _ (sym (c .before .is-empty .ensures) ∙ c .if1 .left)
+
+enum-told-2 : tie.Need-enum-told-2
+enum-told-2 c = search needs
+
+enum-told-3 : tie.Need-enum-told-3
+enum-told-3 c = search needs
+
+enum-told-4 : tie.Need-enum-told-4
+enum-told-4 c = search needs
+
+returns-2 : tie.Need-returns-2
+returns-2 c = load-earliest _ _ (c .before .before .before .before .before .before .before .before .before .before .before .pre) _ _ _ _ _ (c .before .before .before .before .before .before .before .before .before .x .given .1) _ _ (rw (c .before .larger .ensures, c .before .before .before .load-pre .ensures, c .before .before .before .before .view-of-both .ensures, c .before .before .coherence-at .ensures, (rw (c .before .before .before .before .before .before .before .value-of .ensures, c .before .before .before .before .before .before .value-of2 .ensures) at (c .before .before .before .before .before .address-of-sum .ensures .0)))) (rw (rw (c .before .before .before .before .before .before .before .value-of .ensures, c .before .before .before .before .before .before .value-of2 .ensures) at (c .before .before .before .before .before .address-of-sum .ensures .0)) at (c .newest .ensures))
+
+returns-3 : tie.Need-returns-3
+returns-3 c = store-earliest _ _ _ _ _ _ (c .before .before .before .enum-told .given .1) _ (let h = c .first .ensures .within in omega arith) (λ t l z. subst T (c .first .ensures .before t l) z)
+
+returns-4 : tie.Need-returns-4
+returns-4 c = search needs
+
+returns-5 : tie.Need-returns-5
+returns-5 c = search needs
+
+returns-6 : tie.Need-returns-6
+returns-6 c = search needs
+
+pub earliest-spec : {M : Type 1} → statement M
+earliest-spec =
+    tie.close
+    (tie.spec
+    enum-known-x
+    value-of-requires
+    value-of-requires-2
+    address-of-sum-requires
+    view-of-both-requires
+    load-pre-requires
+    coherence-at-requires
+    larger-requires
+    newest-requires
+    enum-told
+    is-empty-requires
+    returns
+    first-requires
+    enum-told-2
+    enum-told-3
+    enum-told-4
+    returns-2
+    returns-3
+    returns-4
+    returns-5
+    returns-6)

@@ -1,0 +1,87 @@
+// The times at which an instruction is worth a try, one by one.
+ghost use Prim.Native.Nat.{_≤_};
+ghost use Rattle.certify.specs.Answers.{Earliest, Following, NextMessage, Stands};
+use loads::load_pre;
+use machine::Memory;
+use machine::Thread;
+use machine::merge::larger;
+use machine::merge::smaller;
+use machine::promises::first;
+use machine::promises::is_empty;
+use rules::operands::address_of_sum;
+use rules::operands::value_of;
+use rules::operands::view_of_both;
+use source::Instr;
+use times::after;
+
+// The newest time up to v at which a message to l stands, or 0.
+fn newest(m: Memory, l: u8, v: u8) -> u8
+    requires { ⌜ m .count ≤ 16 ⌝ }
+    ensures { λ r. ⌜ Stands m l v r ⌝ }
+{
+    let mut t = smaller(v, m.count);
+    while 0 < t {
+        if m.message_at(t).location == l {
+            return t;
+        }
+        t -= 1;
+    }
+    0
+}
+
+// The first time at which the instruction is worth a try, or 17. A load reads nothing older than the newest message that its views have
+// come up to; a store fulfils a promise.
+pub fn earliest(x: Instr, m: Memory, s: Thread) -> u8
+    requires { ⌜ m .count ≤ 16 ⌝ }
+    ensures { λ r. ⌜ Earliest x m s r ⌝ }
+{
+    match x {
+        Instr::Load(k, _, a, b) => {
+            let l = address_of_sum(value_of(s, a), value_of(s, b));
+            let pre = load_pre(k, view_of_both(s, a, b), s.views);
+            newest(m, l, larger(pre, s.coherence_at(l)))
+        }
+        Instr::Store(_, _, _) => {
+            if is_empty(s.promises) {
+                return 17;
+            }
+            first(s.promises)
+        }
+        Instr::Compute(_, _, _, _) => 0,
+        Instr::Branch(_, _, _) => 0,
+        Instr::Fence(_) => 0,
+    }
+}
+
+// The time of the next message to l after time t, or 17.
+fn next_message(m: Memory, l: u8, t: u8) -> u8
+    requires { ⌜ (m .count ≤ 16) × (t ≤ 16) ⌝ }
+    ensures { λ r. ⌜ NextMessage m l t r ⌝ }
+{
+    let mut u = t + 1;
+    while u <= m.count {
+        if m.message_at(u).location == l {
+            return u;
+        }
+        u += 1;
+    }
+    17
+}
+
+// The next time after t at which the instruction is worth a try, or 17.
+pub fn following(x: Instr, m: Memory, s: Thread, t: u8) -> u8
+    requires { ⌜ (m .count ≤ 16) × (t ≤ 16) ⌝ }
+    ensures { λ r. ⌜ Following x m s t r ⌝ }
+{
+    match x {
+        Instr::Load(_, _, a, b) => next_message(
+            m,
+            address_of_sum(value_of(s, a), value_of(s, b)),
+            t,
+        ),
+        Instr::Store(_, _, _) => after(s.promises, t),
+        Instr::Compute(_, _, _, _) => 17,
+        Instr::Branch(_, _, _) => 17,
+        Instr::Fence(_) => 17,
+    }
+}

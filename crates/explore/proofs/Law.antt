@@ -1,0 +1,240 @@
+-- Exploration leaves out nothing: a promise after which the thread is certified is one that the exploration reaches, with a hole in its place that can be neither read nor fulfilled.
+-- Assumes nothing.
+use mathlib.Core.Path.{_≡_, refl, sym, ap, ap₂, _∙_, subst}
+use mathlib.Core.Logic.{inr, ⊎-elim, _≢_}
+use mathlib.Core.Bool.{Bool, not, cond, _&&_, _||_}
+use mathlib.Core.Option.{some}
+use Prim.Native.Nat.{ℕ, zero, suc, _+_, _*_, _-_, _≤_, _<_}
+use native.Mathlib.Nat.{le-trans, le-max-right, mod-lt}
+use native.Mathlib.Decide.{ℕ-discrete}
+use native.Mathlib.Omega.{arith}
+use lib.Dec.{T, eqb, leb, ltb, eqb→eq, lit<}
+use lib.ListN.{length, getD, set, length-set}
+use borrow.Author.Tests.{ne-eqb}
+use Rattle.views.specs.Views.{viewAt, raiseAt}
+use Rattle.views.proofs.Entries.{set-all, set-both}
+use Rattle.views.proofs.Merging.{length-raise, raise-reaches}
+use Rattle.source.specs.Counts.{storesFrom}
+use Rattle.source.proofs.Tests.{or-cases, and-right, below-at, below-all}
+use Rattle.machine.specs.State.{noMessage, messageAt, append, has, with, freshForward, withRegister, raiseCoherence, withViews, withPromises}
+use Rattle.machine.specs.Rules.{valueOf, viewOf₂, address, advance, newer, readable, noneNewer, readValue, readView, loadViews, addPromise}
+use Rattle.machine.proofs.Sets.{has-positive, has-none, has-without, has-with, with-without}
+use Rattle.machine.proofs.Memories.{message-stays, message-new}
+use Rattle.machine.proofs.Effects.{loadLocation, loadPostView, Promised, Effect, computed, loaded, stored, branched, fenced, effect}
+use Rattle.certify.specs.Below.{Code, Operand, LoadMode, Instr, Compute, Load, Store, Branch, Fence, Message, Memory, Forward, Thread}
+use Rattle.certify.specs.Certify.{messageOf, certified}
+use Rattle.certify.specs.Runs.{done, by, own, Certifying}
+use Rattle.certify.specs.Sought.{Fills, Meets}
+use Rattle.explore.specs.Explored.{hole, Reached}
+use Rattle.certify.proofs.Iff.{certified-iff}
+use Rattle.certify.proofs.Fit.{outstanding, Owned, owned, own-effect, fits}
+use Rattle.certify.proofs.Dead.{Dead, dead-ends}
+use Rattle.certify.proofs.Law.{read-view, Sound}
+use Rattle.certify.proofs.Alike.{executes}
+
+-- ---- two memories that are the same but at time h, where the second has a message at no location
+-- messages of one location and value; no rule reads their threads
+abbrev Twin : Message → Message → Type 0
+Twin x y = (x .location ≡ y .location) × (x .value ≡ y .value)
+
+-- as many messages, each the twin of the other but at time h
+record Same (h : ℕ) (m m' : Memory) : Type 0 where
+  same-count : m .count ≡ m' .count
+  long : length (m .messages) ≡ length (m' .messages)
+  at : (k : ℕ) → suc k ≢ h → Twin (getD (m .messages) k noMessage) (getD (m' .messages) k noMessage)
+  nowhere : (messageAt m' h) .location ≡ 16
+
+module _ (h : ℕ) (m m' : Memory) (q : Same h m m') where
+  -- at another time the messages are the same
+  elsewhere : (t : ℕ) → 0 < t → t ≢ h → Twin (messageAt m t) (messageAt m' t)
+  elsewhere t p n = q .at (t - 1) (λ e. n (omega arith))
+
+  -- what can be read at another time can be read there
+  readable-same : (l t : ℕ) → t ≢ h → T (readable m l t) → T (readable m' l t)
+  unfolding readable
+  readable-same l zero n r = tt
+  readable-same l (suc t) n r = subst T (ap₂ (λ (c k : ℕ). eqb (suc t) 0 || (leb (suc t) c && eqb k l)) (q .same-count) (elsewhere (suc t) (omega arith) n .0)) r
+
+  -- its value is the same
+  read-same : (t : ℕ) → t ≢ h → readValue m t ≡ readValue m' t
+  unfolding readValue
+  read-same zero n = refl
+  read-same (suc t) n = ap (λ (z : ℕ). cond (eqb (suc t) 0) 0 z) (elsewhere (suc t) (omega arith) n .1)
+
+  -- where no message is newer none is: the one at no location is not
+  newer-same : (l t v : ℕ) → l < 16 → T (noneNewer m l t v) → T (noneNewer m' l t v)
+  unfolding noneNewer
+  newer-same l t v low r = below-all _ (m' .count) (λ k kl. go k (ℕ-discrete (suc k) h) (below-at _ (m .count) r k (subst (λ (n : ℕ). k < n) (sym (q .same-count)) kl)))
+    where
+      go : (k : ℕ) → Dec (suc k ≡ h) → T (not (newer m l t v (suc k))) → T (not (newer m' l t v (suc k)))
+      go k (yes e) z =
+          let far : (messageAt m' (suc k)) .location ≡ 16 = ap (λ (n : ℕ). (messageAt m' n) .location) e ∙ q .nowhere in
+          subst (λ (b : Bool). T (not (b && ltb t (suc k) && leb (suc k) v))) (sym (ne-eqb _ l (λ p. omega arith))) tt
+      go k (no n) z = subst (λ (j : ℕ). T (not (eqb j l && ltb t (suc k) && leb (suc k) v))) (elsewhere (suc k) (omega arith) n .0) z
+
+  -- what is promised at another time is promised there
+  promised-same : (t l v : ℕ) (s : Thread) → t ≢ h → Promised m t l v s → Promised m' t l v s
+  promised-same t l v s n p =
+      let e = elsewhere t (has-positive (s .promises) t (p .out)) n in
+      record {
+        out = p .out;
+        in-memory = subst (λ (k : ℕ). t ≤ k) (q .same-count) (p .in-memory);
+        at-location = sym (e .0) ∙ p .at-location;
+        at-value = sym (e .1) ∙ p .at-value;
+      }
+
+  -- THE KEY LEMMA: an instruction at another time than h does to the thread on the one memory what it does on the other
+  carry : {t : ℕ} {s : Thread} {x : Instr} {s' : Thread} → t ≢ h → Effect m t s x s' → Effect m' t s x s'
+  carry n (computed e) = computed e
+  carry {t} {s} n (loaded {k} {r} {a} {b} d e) =
+      let l = loadLocation s a b in
+      let post = loadPostView k s a b t in
+      subst (λ (z : ℕ). Effect m' t s (Load k r a b) (advance 1 (withViews (loadViews k (viewOf₂ s a b) post (s .views)) (raiseCoherence l post (withRegister r z post s))))) (sym (read-same t n))
+      (loaded {k = k} {r = r} {a = a} {b = b} (readable-same l t n d) (newer-same l t _ (mod-lt (valueOf s a + valueOf s b) (lit< tt)) e))
+  carry {t} {s} n (stored p x y) = stored (promised-same t _ _ s n p) x y
+  carry n (branched e) = branched e
+  carry n (fenced e) = fenced e
+
+-- messages of one location and value are appended to both, after time h
+same-append : (h : ℕ) (m m' : Memory) (w w' : Message) → Same h m m' → 0 < h → h ≤ m .count → Twin w w' → Same h (append m w) (append m' w')
+same-append h m m' w w' q pos low e =
+    record {
+      same-count = ap (λ (n : ℕ). n + 1) (q .same-count);
+      long = length-set (m .messages) (m .count) w ∙ q .long ∙ sym (length-set (m' .messages) (m' .count) w');
+      at = subst (λ (n : ℕ). (k : ℕ) → suc k ≢ h → Twin (getD (set (m .messages) (m .count) w) k noMessage) (getD (set (m' .messages) n w') k noMessage)) (q .same-count)
+          (set-both (λ k x y. suc k ≢ h → Twin x y) noMessage w w' (m .messages) (m' .messages) (m .count) (q .long) (λ k n. q .at k) (λ n. (refl, refl)) (λ n. e));
+      nowhere = ap (λ (z : Message). z .location) (message-stays m' w' h pos (subst (λ (n : ℕ). h ≤ n) (q .same-count) low)) ∙ q .nowhere;
+    }
+
+-- ---- the promise at time h, of number k, is outstanding, and is no forward time
+record Open (h k : ℕ) (m : Memory) (s : Thread) : Type 0 where
+  in-memory : h ≤ m .count
+  out : T (has (s .promises) h)
+  number : 256 * (messageAt m h) .location + (messageAt m h) .value ≡ k
+  locations : length (s .coherence) ≡ 16
+  no-forward : (l : ℕ) → (getD (s .forward) l freshForward) .time ≢ h
+
+module _ (h k : ℕ) (m : Memory) (s : Thread) (d : Open h k m s) where
+  -- it is so for another thread on the memory, by what is said of that thread
+  kept : (s' : Thread) → T (has (s' .promises) h) → length (s' .coherence) ≡ 16 → ((l : ℕ) → (getD (s' .forward) l freshForward) .time ≢ h) → Open h k m s'
+  kept s' p c n = record { in-memory = d .in-memory; out = p; number = d .number; locations = c; no-forward = n }
+
+  -- no promise is at time 0
+  positive : 0 < h
+  positive = has-positive (s .promises) h (d .out)
+
+  -- an instruction at another time leaves it so
+  open-after : {u : ℕ} {x : Instr} {s' : Thread} → u ≢ h → Effect m u s x s' → Open h k m s'
+  open-after n (computed e) = kept _ (d .out) (d .locations) (d .no-forward)
+  open-after n (loaded r e) = kept _ (d .out) (length-raise (s .coherence) _ _ ∙ d .locations) (d .no-forward)
+  open-after {u} n (stored p x y) =
+      kept _ (has-without (s .promises) u h (p .out) n (d .out)) (length-raise (s .coherence) _ u ∙ d .locations)
+      (set-all (λ (y : Forward). y .time ≢ h) freshForward _ (s .forward) _ (d .no-forward) n)
+  open-after n (branched e) = kept _ (d .out) (d .locations) (d .no-forward)
+  open-after n (fenced e) = kept _ (d .out) (d .locations) (d .no-forward)
+
+  -- and so does a store with its own message
+  open-own : {i : ℕ} {w : Message} {x : Instr} {s' : Thread} → Owned i m w s x s' → Open h k (append m w) s'
+  open-own {i} {w} (owned e) =
+      let low : h ≤ m .count = d .in-memory in
+      record {
+        in-memory = omega arith;
+        out = subst (λ (p : ℕ). T (has p h)) (sym (with-without (s .promises) (m .count + 1))) (d .out);
+        number = ap (λ (z : Message). 256 * z .location + z .value) (message-stays m w h positive low) ∙ d .number;
+        locations = length-raise (s .coherence) _ _ ∙ d .locations;
+        no-forward = set-all (λ (z : Forward). z .time ≢ h) freshForward _ (s .forward) _ (d .no-forward) (λ q. omega (arith, low));
+      }
+
+  -- what is read at time h is at its location
+  read-there : (l : ℕ) → T (readable m l h) → (messageAt m h) .location ≡ l
+  unfolding readable
+  read-there l r =
+      ⊎-elim (λ z. let e = eqb→eq h 0 z in let p = positive in absurd (omega arith))
+      (λ w. eqb→eq ((messageAt m h) .location) l (and-right (leb h (m .count)) (eqb ((messageAt m h) .location) l) w))
+      (or-cases (eqb h 0) (leb h (m .count) && eqb ((messageAt m h) .location) l) r)
+
+  -- a load of it raises the coherence view up to it
+  read-high : (o : LoadMode) (a b : Operand) → (messageAt m h) .location ≡ loadLocation s a b
+      → h ≤ viewAt (raiseAt (s .coherence) (loadLocation s a b) (loadPostView o s a b h)) ((messageAt m h) .location)
+  read-high o a b at =
+      let here = loadLocation s a b in
+      let post = loadPostView o s a b h in
+      let in-range : here < length (s .coherence) = subst (λ (n : ℕ). here < n) (sym (d .locations)) (mod-lt (valueOf s a + valueOf s b) (lit< tt)) in
+      let up : h ≤ post = subst (λ (n : ℕ). n ≤ post) (read-view s here h (d .no-forward here)) (le-max-right _ (readView s here h)) in
+      subst (λ (n : ℕ). h ≤ viewAt (raiseAt (s .coherence) here post) n) (sym at) (le-trans up (raise-reaches (s .coherence) here post in-range))
+
+  -- an instruction at time h fills it, or puts it out of reach
+  at-hole : (c : Code) → outstanding s ≤ storesFrom c (s .position) → {x : Instr} {s' : Thread} → Effect m h s x s' → (Dead h m s' → ⊥) → Fills c x h k s
+  at-hole c enough (computed e) alive = let p = positive in absurd (omega arith)
+  at-hole c enough (loaded {k = o} {r} {a} {b} rd n) alive = absurd (alive (record { in-memory = d .in-memory; out = d .out; high = read-high o a b (read-there _ rd) }))
+  at-hole c enough (stored {k = o} {a} {d = b} p pre low) alive =
+      record {
+        mode = o;
+        a = a;
+        d = b;
+        is-store = refl;
+        number = ap₂ (λ (x y : ℕ). 256 * x + y) (sym (p .at-location)) (sym (p .at-value)) ∙ d .number;
+        early = pre;
+        coherent = low;
+        enough = enough;
+      }
+  at-hole c enough (branched e) alive = let p = positive in absurd (omega arith)
+  at-hole c enough (fenced e) alive = let p = positive in absurd (omega arith)
+
+-- the message of a store, of one thread and of another
+own-other : (i j : ℕ) (s : Thread) (x : Instr) (w : Message) → messageOf i s x ≡ some w → (w' : Message) × (messageOf j s x ≡ some w') × Twin w w'
+own-other i j s (Compute k r a b) w e = absurd (let z : _≡_ {A = ℕ} 0 1 = cc in omega arith)
+own-other i j s (Load k r a b) w e = absurd (let z : _≡_ {A = ℕ} 0 1 = cc in omega arith)
+own-other i j s (Store k a d) w e =
+    let q : record { location = address (valueOf s a); value = valueOf s d; thread = i } ≡ w = cc in
+    (record { location = address (valueOf s a); value = valueOf s d; thread = j }, refl, (ap (λ (z : Message). z .location) (sym q), ap (λ (z : Message). z .value) (sym q)))
+own-other i j s (Branch n a b) w e = absurd (let z : _≡_ {A = ℕ} 0 1 = cc in omega arith)
+own-other i j s (Fence k) w e = absurd (let z : _≡_ {A = ℕ} 0 1 = cc in omega arith)
+
+-- ---- along a run on m: the exploration follows it on m' up to the store that fulfils the promise
+explored-run : {c : Code} {i h k : ℕ} {m m' : Memory} {s : Thread} → Same h m m' → Open h k m s → Certifying c i m s → Meets c 0 m' s h k
+explored-run {h = h} {s = s} q d (done e) = absurd (has-none (s .promises) h e (d .out))
+explored-run {c} {i} {h} {k} {m} {m'} {s} q d (by x t s' g tl e r) =
+    let f = effect x m t s s' e in
+    elim (ℕ-discrete t h) [
+      | yes p ↦ done (inr (x, g, at-hole h k m s d c (fits (by x t s' g tl e r)) (subst (λ (u : ℕ). Effect m u s x s') p f) (λ dead. dead-ends dead r)))
+      | no n ↦ by x t s' g (subst (λ (c : ℕ). t ≤ c) (q .same-count) tl) (executes (carry h m m' q n f)) (explored-run q (open-after h k m s d n f) r)
+    ]
+explored-run {c} {i} {h} {k} {m} {m'} {s} q d (own x w s' g gw few e r) =
+    let f = effect x (append m w) ((append m w) .count) (addPromise (append m w) s) s' e in
+    let low : h ≤ m .count = d .in-memory in
+    let o = own-other i 0 s x w gw in
+    let w' = o .0 in
+    let q' = same-append h m m' w w' q (positive h k m s d) low (o .2) in
+    let f' = carry h (append m w) (append m' w') q' (λ z. omega (arith, low)) f in
+    own x w' s' g (o .1) (subst (λ (n : ℕ). n < 16) (q .same-count) few)
+    (executes (subst (λ (n : ℕ). Effect (append m' w') (n + 1) (withPromises (with (s .promises) (n + 1)) s) x s') (q .same-count) f'))
+    (explored-run q' (open-own h k m s d (own-effect i m w s gw f)) r)
+
+-- EXPLORATION LEAVES OUT NOTHING: a promise (l, v) after which the thread is certified is one that the exploration reaches
+pub explored-law : (c : Code) (i l v : ℕ) (m : Memory) (s : Thread) → Sound m s → m .count < 16
+    → T (certified c i (append m (record { location = l; value = v; thread = i })) (addPromise (append m (record { location = l; value = v; thread = i })) s))
+    → Reached c m s (256 * l + v)
+explored-law c i l v m s ok few h =
+    explored-run
+    (record {
+      same-count = refl;
+      long = length-set (m .messages) (m .count) y ∙ sym (length-set (m .messages) (m .count) hole);
+      at = set-both (λ k a b. suc k ≢ m .count + 1 → Twin a b) noMessage y hole (m .messages) (m .messages) (m .count) refl (λ k n o. (refl, refl)) (λ o. (refl, refl))
+          (λ o. absurd (o (omega arith)));
+      nowhere = ap (λ (z : Message). z .location) (newest hole);
+    })
+    (record {
+      in-memory = omega arith;
+      out = has-with (s .promises) (m .count) (ok .promises-in);
+      number = ap (λ (z : Message). 256 * z .location + z .value) (newest y);
+      locations = ok .locations;
+      no-forward = λ k q. let le = ok .forwards k in omega arith;
+    })
+    (certified-iff c i (append m y) (addPromise (append m y) s) .0 h)
+  where
+    y : Message
+    y = record { location = l; value = v; thread = i }
+
+    newest : (w : Message) → messageAt (append m w) (m .count + 1) ≡ w
+    newest w = message-new m w (subst (λ (n : ℕ). m .count < n) (sym (ok .places)) few)

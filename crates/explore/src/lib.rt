@@ -1,0 +1,39 @@
+// Promises by exploration: the runs of a thread alone, on a memory with one message more that no load can read, say which stores could
+// fulfil a promise there.
+ghost use mathlib.Core.Path.{_≡_};
+ghost use Prim.Native.Nat.{_<_};
+ghost use Rattle.certify.specs.Answers.{Ready};
+ghost use Rattle.certify.specs.Sought.{Least};
+ghost use Rattle.explore.specs.Explored.{Reached};
+use certify::Sought;
+use certify::reach::least_reached;
+use machine::Memory;
+use machine::Message;
+use machine::Thread;
+use machine::promises::with;
+use source::Code;
+
+// The least promise from `from` on, by 256 · l + v, that a store of the thread could come to fulfil, or 4096.
+pub fn next_reached(c: Code, m: Memory, s: Thread, from: u16) -> u16
+    requires { ⌜ Ready c m s × (m .count < 16) ⌝ }
+    ensures { λ r. ⌜ Least from 4096 (Reached c m s) r ⌝ }
+{
+    let hole = Message {
+        location: 16,
+        value: 0,
+        thread: 0,
+    };
+    let n = m.append(hole);
+    let q = s.with_promises(with(s.promises, n.count));
+    least_reached(
+        c,
+        0,
+        n,
+        q,
+        Sought {
+            hole: n.count,
+            from: from,
+            best: 4096,
+        },
+    )
+}

@@ -1,0 +1,48 @@
+//! Seconds of the files that take longest, with a budget of 100, and of certifications that have to look
+//! at every run. The best of a few rounds counts.
+
+use std::time::Instant;
+
+use twin::bytes::{machine_bytes, program_bytes};
+use twin::worst;
+
+const ROUNDS: u32 = 3;
+
+/// The seconds of the quickest of a few rounds.
+fn quickest(mut run: impl FnMut()) -> f64 {
+    let seconds = |_| {
+        let start = Instant::now();
+        run();
+        start.elapsed().as_secs_f64()
+    };
+    (0..ROUNDS).map(seconds).fold(f64::INFINITY, f64::min)
+}
+
+fn searched(file: &[u8]) -> f64 {
+    let (mut area, mut answer) = ([0; 480], [0; 12]);
+    quickest(|| {
+        blyskota::calls::search(file, worst::BUDGET, &mut area, &mut answer);
+    })
+}
+
+fn certified(loads: u8) -> f64 {
+    let (program, machine) = worst::unkept(loads);
+    let (program, machine) = (program_bytes(&program), machine_bytes(&machine));
+    let mut answer = [0; 4];
+    let seconds = quickest(|| {
+        blyskota::calls::certify(&program, &machine, 1, &mut answer);
+    });
+    assert_eq!(answer[..2], [0, 0], "the promise can be kept");
+    seconds
+}
+
+pub fn times() {
+    println!("\n{:<30}{:>10}", "worst files, budget 100", "seconds");
+    for vector in worst::files() {
+        println!("{:<30}{:>10.3}", vector.name, searched(&vector.file));
+    }
+    println!("\n{:<30}{:>10}", "a promise that is not kept", "seconds");
+    for loads in [4, 6, 7, 8] {
+        println!("{:<30}{:>10.4}", format!("{loads} loads, 15 messages"), certified(loads));
+    }
+}
