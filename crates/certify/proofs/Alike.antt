@@ -2,13 +2,13 @@
 -- Assumes nothing.
 use mathlib.Core.Path.{_≡_, refl, sym, ap, ap₂, _∙_, subst}
 use mathlib.Core.Logic.{_⊎_, inl, inr}
-use mathlib.Core.Bool.{Bool, true, false, not, cond, _&&_, _||_}
+use mathlib.Core.Bool.{Bool, true, false, not, _||_}
 use mathlib.Core.List.{List}
 use mathlib.Core.Option.{some}
 use Prim.Native.Nat.{ℕ, zero, suc, max, _+_, _≤_, _<_}
 use native.Mathlib.Nat.{le-refl, lt-of-le-of-lt}
 use native.Mathlib.Omega.{arith}
-use lib.Dec.{T, eqb-refl, eqb, leb, ltb, eqb→eq, leb→le, le→leb, ltb→lt, lt→ltb}
+use lib.Dec.{T, eqb-refl, eqb, eqb→eq}
 use lib.ListN.{length, getD, set, length-set}
 use borrow.Author.Tests.{ne-eqb}
 use Rattle.views.specs.Views.{viewAt, raiseAt}
@@ -16,32 +16,18 @@ use Rattle.views.proofs.Entries.{set-both}
 use Rattle.views.proofs.Merging.{length-raise}
 use Rattle.source.specs.Program.{instrAt}
 use Rattle.source.specs.Tests.{below}
-use Rattle.source.proofs.Tests.{or-left, or-right, and-left, and-right, and-both, eq→eqb, is-true, below-at, below-all}
-use Rattle.machine.specs.State.{messageAt, append, has, with, without, raiseCap, freshRegister, freshForward}
-use Rattle.machine.specs.Rules.{next, valueOf, viewOf, viewOf₂, address, combine, computeDone, branchBy, branchDone, fenceDone, storeDone, loadPre, readable, noneNewer, newer, readView, ifAcquire, loadViews, loadDone, loadAt, storePre, promised, ifRelease, storeViews, storeAt, fenceViews, execute, addPromise}
+use Rattle.source.proofs.Tests.{or-left, or-right, and-both}
+use Rattle.machine.specs.State.{append, has, with, without, freshRegister, freshForward}
+use Rattle.machine.specs.Rules.{next, valueOf, viewOf, viewOf₂, address, combine, computeDone, branchBy, branchDone, fenceDone, storeDone, readable, noneNewer, readView, loadDone, storePre, execute, addPromise}
 use Rattle.machine.proofs.Effects.{loadLocation, loadPreView, loadPostView, storeLocation, Promised, Effect, computed, loaded, stored, branched, fenced, effect}
 use Rattle.live.specs.Live.{isRegister, eitherRegister, uses, locates, weighs, writes, skips, Live, here, later}
-use Rattle.certify.specs.Below.{Code, Operand, Constant, OfRegister, ComputeMode, LoadMode, StoreMode, FenceMode, Instr, Compute, Load, Store, Branch, Fence, Memory, Register, Forward, Views, Thread}
-use Rattle.source.specs.declared.LoadMode.the-variants.{PlainLoad, Acquire, WeakAcquire}
-use Rattle.source.specs.declared.StoreMode.the-variants.{PlainStore, Release}
-use Rattle.source.specs.declared.FenceMode.the-variants.{DmbSy, DmbLd, DmbSt, Isb}
+use Rattle.certify.specs.Below.{Code, Operand, Constant, OfRegister, ComputeMode, LoadMode, StoreMode, FenceMode, Instr, Compute, Load, Store, Branch, Fence, Memory, Register, Forward, Thread}
 use Rattle.certify.proofs.Iff.{certified-iff}
+use Rattle.certify.proofs.Lower.{Lower, raise-both, near-sum, max-low, pre-low, store-pre-low, load-views-low, store-views-low, cap-views-low, fence-views-low, none-newer-low, view-low}
+use Rattle.certify.proofs.Executes.{executes}
 use Rattle.certify.specs.Runs.{Comes, done, by, own}
 use Rattle.certify.specs.Tries.{Matches}
 use Rattle.certify.specs.Certify.{messageOf, certified}
-
--- views of two lists raised at one place
-raise-both : (c d : List ℕ) (i v w : ℕ) → length c ≡ length d → ((k : ℕ) → viewAt c k ≤ viewAt d k) → v ≤ w → (k : ℕ) → viewAt (raiseAt c i v) k ≤ viewAt (raiseAt d i w) k
-raise-both c d i v w e h l = set-both (λ j x y. x ≤ y) 0 _ _ c d i e (λ k n. h k) (le-refl 0) (let q = h i in omega arith)
-
--- ---- the six views
-pub record Lower (v w : Views) : Type 0 where
-  pub rOld-low : v .rOld ≤ w .rOld
-  pub wOld-low : v .wOld ≤ w .wOld
-  pub rNew-low : v .rNew ≤ w .rNew
-  pub wNew-low : v .wNew ≤ w .wNew
-  pub cap-low : v .cap ≤ w .cap
-  pub rel-low : v .rel ≤ w .rel
 
 -- the forward pairs at l: the same time, with a view that is at most the other
 abbrev pub Forwarded : List Forward → List Forward → ℕ → Type 0
@@ -64,115 +50,6 @@ pub record Alike (c : Code) (s s' : Thread) : Type 0 where
   pub forward-long : length (s .forward) ≡ length (s' .forward)
   pub forward-same : (l : ℕ) → Forwarded (s .forward) (s' .forward) l
   pub views-low : Lower (s .views) (s' .views)
-
--- ---- what the rules compute, with smaller views
-near-sum : (a a' b b' : ℕ) → address a ≡ address a' → address b ≡ address b' → address (a + b) ≡ address (a' + b')
-near-sum a a' b b' p q = omega arith
-
-max-low : (a b x y : ℕ) → a ≤ b → x ≤ y → max a x ≤ max b y
-max-low a b x y l r = omega arith
-
-pre-low : (k : LoadMode) (va va' : ℕ) (v w : Views) → va ≤ va' → Lower v w → loadPre k va v ≤ loadPre k va' w
-pre-low PlainLoad va va' v w l o = let a = o .rNew-low in omega arith
-pre-low Acquire va va' v w l o = let a = o .rNew-low in let b = o .rel-low in omega arith
-pre-low WeakAcquire va va' v w l o = let a = o .rNew-low in omega arith
-
-store-pre-low : (k : StoreMode) (va va' vd vd' : ℕ) (v w : Views) → va ≤ va' → vd ≤ vd' → Lower v w → storePre k va vd v ≤ storePre k va' vd' w
-store-pre-low PlainStore va va' vd vd' v w l d o = max-low _ _ _ _ (max-low _ _ _ _ l d) (max-low _ _ _ _ (o .wNew-low) (o .cap-low))
-store-pre-low Release va va' vd vd' v w l d o =
-    max-low _ _ _ _ (max-low _ _ _ _ (max-low _ _ _ _ l d) (max-low _ _ _ _ (o .wNew-low) (o .cap-low))) (max-low _ _ _ _ (o .rOld-low) (o .wOld-low))
-
-acquire-low : (k : LoadMode) (p q : ℕ) → p ≤ q → ifAcquire k p ≤ ifAcquire k q
-acquire-low PlainLoad p q l = le-refl 0
-acquire-low Acquire p q l = l
-acquire-low WeakAcquire p q l = l
-
-load-views-low : (k : LoadMode) (va va' p q : ℕ) (v w : Views) → va ≤ va' → p ≤ q → Lower v w → Lower (loadViews k va p v) (loadViews k va' q w)
-load-views-low k va va' p q v w l r o =
-    let z = acquire-low k p q r in
-    record {
-      rOld-low = max-low _ _ _ _ (o .rOld-low) r;
-      wOld-low = o .wOld-low;
-      rNew-low = max-low _ _ _ _ (o .rNew-low) z;
-      wNew-low = max-low _ _ _ _ (o .wNew-low) z;
-      cap-low = max-low _ _ _ _ (o .cap-low) l;
-      rel-low = o .rel-low;
-    }
-
-store-views-low : (k : StoreMode) (t va va' : ℕ) (v w : Views) → va ≤ va' → Lower v w → Lower (storeViews k t va v) (storeViews k t va' w)
-store-views-low k t va va' v w l o =
-    record {
-      rOld-low = o .rOld-low;
-      wOld-low = max-low _ _ _ _ (o .wOld-low) (le-refl t);
-      rNew-low = o .rNew-low;
-      wNew-low = o .wNew-low;
-      cap-low = max-low _ _ _ _ (o .cap-low) l;
-      rel-low = max-low _ _ _ _ (o .rel-low) (le-refl (ifRelease k t));
-    }
-
-cap-views-low : (va va' : ℕ) (v w : Views) → va ≤ va' → Lower v w → Lower (raiseCap va v) (raiseCap va' w)
-cap-views-low va va' v w l o =
-    record { rOld-low = o .rOld-low; wOld-low = o .wOld-low; rNew-low = o .rNew-low; wNew-low = o .wNew-low; cap-low = max-low _ _ _ _ (o .cap-low) l; rel-low = o .rel-low }
-
-fence-views-low : (k : FenceMode) (v w : Views) → Lower v w → Lower (fenceViews k v) (fenceViews k w)
-fence-views-low DmbSy v w o =
-    let z = max-low _ _ _ _ (o .rOld-low) (o .wOld-low) in
-    record { rOld-low = o .rOld-low; wOld-low = o .wOld-low; rNew-low = max-low _ _ _ _ (o .rNew-low) z; wNew-low = max-low _ _ _ _ (o .wNew-low) z; cap-low = o .cap-low; rel-low = o .rel-low }
-fence-views-low DmbLd v w o =
-    let z = o .rOld-low in
-    record { rOld-low = o .rOld-low; wOld-low = o .wOld-low; rNew-low = max-low _ _ _ _ (o .rNew-low) z; wNew-low = max-low _ _ _ _ (o .wNew-low) z; cap-low = o .cap-low; rel-low = o .rel-low }
-fence-views-low DmbSt v w o =
-    record { rOld-low = o .rOld-low; wOld-low = o .wOld-low; rNew-low = o .rNew-low; wNew-low = max-low _ _ _ _ (o .wNew-low) (o .wOld-low); cap-low = o .cap-low; rel-low = o .rel-low }
-fence-views-low Isb v w o =
-    record { rOld-low = o .rOld-low; wOld-low = o .wOld-low; rNew-low = max-low _ _ _ _ (o .rNew-low) (o .cap-low); wNew-low = o .wNew-low; cap-low = o .cap-low; rel-low = o .rel-low }
-
-not-both : (a b : Bool) → (T a → T b) → T (not b) → T (not a)
-not-both true true f h = h
-not-both true false f h = absurd (f tt)
-not-both false b f h = tt
-
--- no newer message: for a smaller span, and for a later time
-none-newer-low : (m : Memory) (l t t' v v' : ℕ) → t' ≤ t → v ≤ v' → T (noneNewer m l t' v') → T (noneNewer m l t v)
-unfolding noneNewer
-none-newer-low m l t t' v v' tl vl h = below-all _ (m .count) (λ k kl. not-both (newer m l t v (suc k)) (newer m l t' v' (suc k)) (wider k) (below-at _ (m .count) h k kl))
-  where
-    wider : (k : ℕ) → T (newer m l t v (suc k)) → T (newer m l t' v' (suc k))
-    wider k n =
-        let a : T (eqb ((messageAt m (suc k)) .location) l) = search (and-left, and-right) in
-        let b : T (ltb t (suc k)) = search (and-left, and-right) in
-        let d : T (leb (suc k) v) = search (and-left, and-right) in
-        let b' = ltb→lt t (suc k) b in
-        let d' = leb→le (suc k) v d in
-        let x : T (ltb t' (suc k)) = lt→ltb t' (suc k) (omega arith) in
-        let y : T (leb (suc k) v') = le→leb (suc k) v' (omega arith) in
-        and-both (eqb ((messageAt m (suc k)) .location) l && ltb t' (suc k)) (leb (suc k) v') (and-both (eqb ((messageAt m (suc k)) .location) l) (ltb t' (suc k)) a x) y
-
-view-low : (t f f' v v' : ℕ) → f ≡ f' → v ≤ v' → cond (eqb t f) v t ≤ cond (eqb t f') v' t
-view-low t f f' v v' e l = rw e (go (eqb t f'))
-  where
-    go : (b : Bool) → cond b v t ≤ cond b v' t
-    go true = l
-    go false = le-refl t
-
--- ---- an instruction that executes, forwards
-promised-test : {m : Memory} {t l v : ℕ} {s : Thread} → Promised m t l v s → T (promised m t l v s)
-unfolding promised
-promised-test {m} {t} {l} {v} {s} p =
-    let a = has (s .promises) t in
-    let b = leb t (m .count) in
-    let c = eqb ((messageAt m t) .location) l in
-    let d = eqb ((messageAt m t) .value) v in
-    and-both (a && b && c) d (and-both (a && b) c (and-both a b (p .out) (le→leb t (m .count) (p .in-memory))) (eq→eqb (p .at-location))) (eq→eqb (p .at-value))
-
-pub executes : {m : Memory} {t : ℕ} {s : Thread} {x : Instr} {s' : Thread} → Effect m t s x s' → execute x m t s ≡ next s'
-unfolding execute loadAt storeAt
-executes {t = t} (computed e) = rw (is-true (eqb t 0) (eq→eqb e))
-executes {m} {t} {s} (loaded {k} {r} {a} {b} d n) =
-    rw (is-true (readable m (loadLocation s a b) t) d, is-true (noneNewer m (loadLocation s a b) t (max (loadPreView k s a b) (viewAt (s .coherence) (loadLocation s a b)))) n)
-executes {m} {t} {s} (stored {k} {a} {d} p x y) =
-    rw (is-true (promised m t (storeLocation s a) (valueOf s d) s) (promised-test p), is-true (ltb (storePre k (viewOf s a) (viewOf s d) (s .views)) t) (lt→ltb _ t x), is-true (ltb (viewAt (s .coherence) (storeLocation s a)) t) (lt→ltb _ t y))
-executes {t = t} (branched e) = rw (is-true (eqb t 0) (eq→eqb e))
-executes {t = t} (fenced e) = rw (is-true (eqb t 0) (eq→eqb e))
 
 -- ---- one instruction on both threads
 -- a register agrees with itself

@@ -5,6 +5,9 @@ pub mod Candidates
 pub mod Law
 pub mod Trying
 pub mod Asked
+pub mod Lower
+pub mod Executes
 pub mod Alike
 pub mod Tries
 pub mod Reaching
+pub mod Plain

@@ -54,7 +54,7 @@ pub least-empty : (from best : ℕ) (P : ℕ → Type 0) → best ≤ from → L
 least-empty from best P h = least-none from best P (λ k a b p. omega arith)
 
 -- what passes for one test passes for another, and the other way round
-least-as : (from best : ℕ) (P Q : ℕ → Type 0) (r : ℕ) → ((k : ℕ) → P k → Q k) → ((k : ℕ) → Q k → P k) → Least from best P r → Least from best Q r
+pub least-as : (from best : ℕ) (P Q : ℕ → Type 0) (r : ℕ) → ((k : ℕ) → P k → Q k) → ((k : ℕ) → Q k → P k) → Least from best P r → Least from best Q r
 least-as from best P Q r f g l =
     record { better = record { low = l .better .low; hit = λ h. let q = l .better .hit h in (q .0, f r (q .1)) }; least = λ k a b q. l .least k a b (g k q) }
 

@@ -2,6 +2,7 @@
 -- Assumes nothing.
 use mathlib.Core.Path.{_≡_}
 use mathlib.Core.Logic.{_⊎_}
+use mathlib.Core.Bool.{Bool, true, false}
 use mathlib.Core.Option.{some}
 use Prim.Native.Nat.{ℕ, _+_, _*_, _≤_, _<_}
 use lib.Count.{ones}
@@ -10,8 +11,9 @@ use Rattle.source.specs.Program.{instrAt}
 use Rattle.source.specs.Counts.{storesFrom}
 use Rattle.machine.specs.State.{append}
 use Rattle.machine.specs.Rules.{next, valueOf, viewOf, address, storePre, execute, addPromise}
-use Rattle.certify.specs.Below.{Code, Operand, StoreMode, Instr, Store, Message, Memory, Thread}
+use Rattle.certify.specs.Below.{Code, Operand, StoreMode, Instr, Compute, Load, Store, Branch, Fence, Message, Memory, Thread}
 use Rattle.certify.specs.Certify.{messageOf}
+use Rattle.certify.specs.Answers.{Ready}
 use Rattle.certify.specs.Runs.{Comes, Fewer}
 use Rattle.certify.specs.Tries.{Grain}
 pub use Rattle.certify.specs.declared.Sought.{Sought}
@@ -45,6 +47,21 @@ pub record Least (from best : ℕ) (P : ℕ → Type 0) (r : ℕ) : Type 0 where
 -- the thread alone comes to what is sought, by the number k
 abbrev pub Meets : Code → ℕ → Memory → Thread → ℕ → ℕ → Type 0
 Meets c i m s h k = Comes (Aim c h k) Fewer c i m s
+
+-- the instruction is neither load nor store
+unfoldable pub isPlain : Instr → Bool
+isPlain (Compute k r a b) = true
+isPlain (Load k r a b) = false
+isPlain (Store k a d) = false
+isPlain (Branch n a b) = true
+isPlain (Fence k) = true
+
+-- r is s some instructions on, each of which had one way to go on: what the one comes to the other does
+pub record Straight (c : Code) (m : Memory) (s r : Thread) : Type 0 where
+  pub ready : Ready c m r
+  pub further : s .position ≤ r .position
+  pub there : (i h k : ℕ) → Meets c i m r h k → Meets c i m s h k
+  pub back : (i h k : ℕ) → Meets c i m s h k → Meets c i m r h k
 
 -- a store with its own message comes to it
 pub record Owns (c : Code) (i : ℕ) (m : Memory) (s : Thread) (x : Instr) (h k : ℕ) : Type 0 where

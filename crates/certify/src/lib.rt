@@ -1,6 +1,7 @@
 // Certification of one thread: alone on the memory, by executing instructions, it can reach an empty promise set.
 mod checked;
 pub mod reach;
+mod straight;
 mod vain;
 mod window;
 

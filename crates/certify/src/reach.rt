@@ -11,6 +11,7 @@ ghost use Rattle.certify.specs.Tries.{Grain};
 ghost use Rattle.certify.specs.Sought.{Fills, Least, Meets, Owns, Missed, Went};
 use crate::Sought;
 use crate::own_message;
+use crate::straight::straight;
 use crate::vain::grain;
 use crate::vain::in_vain;
 use crate::window::earliest;
@@ -119,29 +120,30 @@ pub fn least_reached(c: Code, i: u8, m: Memory, s: Thread, q: Sought) -> u16
     requires { ⌜ Ready c m s ⌝ }
     ensures { λ r. ⌜ Least (q .from) (q .best) (Meets c i m s (q .hole)) r ⌝ }
 {
-    let now = kept(s, q);
+    let y = straight(c, m, s);
+    let now = kept(y, q);
     if now <= q.from {
         return now;
     }
-    if c.count <= s.position {
+    if c.count <= y.position {
         return now;
     }
-    let x = c.instr_at(s.position);
-    let here = filled(c, x, s, q.below(now));
-    let mut t = earliest(x, m, s);
+    let x = c.instr_at(y.position);
+    let here = filled(c, x, y, q.below(now));
+    let mut t = earliest(x, m, y);
     let mut r = Tried {
         best: here,
         first: 255,
         grain: 3,
     };
     while t <= 16 {
-        r = try_at(c, i, m, s, x, t, r, q);
+        r = try_at(c, i, m, y, x, t, r, q);
         if r.best <= q.from {
             return r.best;
         }
-        t = following(x, m, s, t);
+        t = following(x, m, y, t);
     }
-    own_reached(c, i, m, s, x, q.below(r.best))
+    own_reached(c, i, m, y, x, q.below(r.best))
 }
 
 // The instruction is executed at time t, and the thread goes on from there. The tries before t have come to nothing, and have left p.

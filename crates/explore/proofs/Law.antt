@@ -30,7 +30,7 @@ use Rattle.certify.proofs.Iff.{certified-iff}
 use Rattle.certify.proofs.Fit.{outstanding, Owned, owned, own-effect, fits}
 use Rattle.certify.proofs.Dead.{Dead, dead-ends}
 use Rattle.certify.proofs.Law.{read-view, Sound}
-use Rattle.certify.proofs.Alike.{executes}
+use Rattle.certify.proofs.Executes.{executes}
 
 -- ---- two memories that are the same but at time h, where the second has a message at no location
 -- messages of one location and value; no rule reads their threads

@@ -11,6 +11,7 @@ use Rattle.machine.proofs.Effects.{effect, effect-time}
 use Rattle.certify.specs.Sought.{Better, Meets, Missed}
 use Rattle.certify.proofs.Trying.{ready-after, ready-own, reach-byte}
 use Rattle.certify.proofs.Tries.{grain-other, next-within}
+use Rattle.certify.proofs.Plain.{straight-least}
 use Rattle.certify.proofs.Reaching.{least-empty, reach-now, reach-end, reach-found, reach-all, missed-none, missed-next, better-on, better-same, went-refused, went-vain, went-on, owns-none, owns-full, owns-crowded, owns-stuck, owns-goes, further-by, further-own}
 use borrow.Fn.PlainCycle.{Measures, is, falls, and}
 use Rattle.certify.proofs.reach.least_reached.Reads as least-reached
@@ -31,6 +32,7 @@ use Rattle.certify.proofs.reach.crowded.Reads as crowded-reads
 use Rattle.certify.proofs.reach.filled.Reads as filled-reads
 use Rattle.certify.proofs.reach.grain_of.Reads as grain-of-reads
 use Rattle.certify.proofs.reach.kept.Reads as kept-reads
+use Rattle.certify.proofs.straight.straight.Reads as straight-reads
 use Rattle.certify.proofs.vain.in_vain.Reads as in-vain-reads
 use Rattle.certify.proofs.window.earliest.Reads as earliest-reads
 use Rattle.certify.proofs.window.following.Reads as following-reads
@@ -87,13 +89,13 @@ abbrev try-at-below : ℕ → In 0 try-at-kinds.ps
 try-at-below t = and 0 try-at-kinds.ps (falls 0 try-at-kinds.ps _<_ μ-try-at t) try-at.Pre
 
 abbrev least-reached-Inv-loop : least-reached-lts.InvT-loop
-least-reached-Inv-loop c i m s q now x here t₀ r₀ t r = Missed c i m s x q r t × (Better (q .from) (r₀ .best) (Meets c i m s (q .hole)) (r .best) × (t ≤ 17))
+least-reached-Inv-loop c i m q y now x here t₀ r₀ t r = Missed c i m y x q r t × (Better (q .from) (r₀ .best) (Meets c i m y (q .hole)) (r .best) × (t ≤ 17))
 
 abbrev least-reached-μ-loop : least-reached-lts.MeasureT-loop
-least-reached-μ-loop c i m s q now x here t₀ r₀ t r = 17 - t
+least-reached-μ-loop c i m q y now x here t₀ r₀ t r = 17 - t
 
 abbrev least-reached-claims : ℕ → least-reached-lts.Claims
-least-reached-claims t = (kept-reads.Asked, kept-reads.Learnt, instr-at-reads.Asked, instr-at-reads.Learnt, below-reads.Asked, below-reads.Learnt, filled-reads.Asked, filled-reads.Learnt, earliest-reads.Asked, earliest-reads.Learnt, try-at-below t, try-at.Post, following-reads.Asked, following-reads.Learnt, own-reached-below t, own-reached.Post)
+least-reached-claims t = (straight-reads.Asked, straight-reads.Learnt, kept-reads.Asked, kept-reads.Learnt, instr-at-reads.Asked, instr-at-reads.Learnt, below-reads.Asked, below-reads.Learnt, filled-reads.Asked, filled-reads.Learnt, earliest-reads.Asked, earliest-reads.Learnt, try-at-below t, try-at.Post, following-reads.Asked, following-reads.Learnt, own-reached-below t, own-reached.Post)
 
 abbrev own-reached-claims : ℕ → own-reached-lts.Claims
 own-reached-claims t = (crowded-reads.Asked, crowded-reads.Learnt, own-store-reads.Asked, own-store-reads.Learnt, own-message-reads.Asked, own-message-reads.Learnt, append-reads.Asked, append-reads.Learnt, least-reached-below t, least-reached.Post)
@@ -104,38 +106,41 @@ try-again-claims t = (grain-of-reads.Asked, grain-of-reads.Learnt, in-vain-reads
 abbrev try-at-claims : ℕ → try-at-lts.Claims
 try-at-claims t = (execute-reads.Asked, execute-reads.Learnt, below-reads.Asked, below-reads.Learnt, kept-reads.Asked, kept-reads.Learnt, try-again-below t, try-again.Post, least-reached-below t, least-reached.Post)
 
+least-reached-straight-requires : (t : ℕ) → least-reached-lts.Need-straight-requires (least-reached-claims t) (least-reached-at t) least-reached.Post least-reached-Inv-loop least-reached-μ-loop
+least-reached-straight-requires t c κs = c .pre .1
+
 least-reached-kept-requires : (t : ℕ) → least-reached-lts.Need-kept-requires (least-reached-claims t) (least-reached-at t) least-reached.Post least-reached-Inv-loop least-reached-μ-loop
 least-reached-kept-requires t c κs = search needs
 
 least-reached-returns : (t : ℕ) → least-reached-lts.Need-returns (least-reached-claims t) (least-reached-at t) least-reached.Post least-reached-Inv-loop least-reached-μ-loop
-least-reached-returns t c = reach-now _ _ _ _ _ _ (c .before .before .kept .ensures) (c .if1 .taken)
+least-reached-returns t c = straight-least _ _ _ _ _ (c .before .before .before .straight .ensures) _ _ _ _ (reach-now _ _ _ _ _ _ (c .before .before .kept .ensures) (c .if1 .taken))
 
 least-reached-returns-2 : (t : ℕ) → least-reached-lts.Need-returns-2 (least-reached-claims t) (least-reached-at t) least-reached.Post least-reached-Inv-loop least-reached-μ-loop
-least-reached-returns-2 t c = reach-end _ _ _ _ _ _ (c .before .before .before .before .before .kept .ensures) (c .if2 .taken)
+least-reached-returns-2 t c = straight-least _ _ _ _ _ (c .before .before .before .before .before .before .straight .ensures) _ _ _ _ (reach-end _ _ _ _ _ _ (c .before .before .before .before .before .kept .ensures) (c .if2 .taken))
 
 least-reached-instr-at-requires : (t : ℕ) → least-reached-lts.Need-instr-at-requires (least-reached-claims t) (least-reached-at t) least-reached.Post least-reached-Inv-loop least-reached-μ-loop
-least-reached-instr-at-requires t c κs = let h = c .before .before .before .before .before .before .pre .1 .code-ok .short in let l = c .if2 .left in (omega arith, l)
+least-reached-instr-at-requires t c κs = let h = c .before .before .before .before .before .before .before .pre .1 .code-ok .short in let l = c .if2 .left in (omega arith, l)
 
 least-reached-below-requires : (t : ℕ) → least-reached-lts.Need-below-requires (least-reached-claims t) (least-reached-at t) least-reached.Post least-reached-Inv-loop least-reached-μ-loop
 least-reached-below-requires t c κs = search needs
 
 least-reached-filled-requires : (t : ℕ) → least-reached-lts.Need-filled-requires (least-reached-claims t) (least-reached-at t) least-reached.Post least-reached-Inv-loop least-reached-μ-loop
-least-reached-filled-requires t c κs = c .before .before .before .before .before .before .before .before .pre .1 .code-ok .short
+least-reached-filled-requires t c κs = c .before .before .before .before .before .before .before .before .before .pre .1 .code-ok .short
 
 least-reached-earliest-requires : (t : ℕ) → least-reached-lts.Need-earliest-requires (least-reached-claims t) (least-reached-at t) least-reached.Post least-reached-Inv-loop least-reached-μ-loop
-least-reached-earliest-requires t c κs = c .before .before .before .before .before .before .before .before .before .pre .1 .room
+least-reached-earliest-requires t c κs = c .before .before .before .before .before .before .before .before .before .before .pre .1 .room
 
 least-reached-loop-holds : (t : ℕ) → least-reached-lts.Need-loop-holds (least-reached-claims t) (least-reached-at t) least-reached.Post least-reached-Inv-loop least-reached-μ-loop
 least-reached-loop-holds t c = (missed-none _ _ _ _ _ _ _ _ (c .earliest .ensures), (better-same _ _ _, c .earliest .ensures .within))
 
 least-reached-try-at-requires : (t : ℕ) → least-reached-lts.Need-try-at-requires (least-reached-claims t) (least-reached-at t) least-reached.Post least-reached-Inv-loop least-reached-μ-loop
-least-reached-try-at-requires t c κs = (omega (arith, c .before .before .before .before .before .before .before .before .before .before .before .before .pre .0), (record { ready = c .before .before .before .before .before .before .before .before .before .before .before .before .pre .1; is-next = c .before .before .before .before .before .instr-at .ensures }, (c .loop-test .taken, c .before .loop .inv .0)))
+least-reached-try-at-requires t c κs = let f = c .before .before .before .before .before .before .before .before .before .before .before .before .straight .ensures .further in (omega (arith, c .before .before .before .before .before .before .before .before .before .before .before .before .before .pre .0), (record { ready = c .before .before .before .before .before .before .before .before .before .before .before .before .straight .ensures .ready; is-next = c .before .before .before .before .before .instr-at .ensures }, (c .loop-test .taken, c .before .loop .inv .0)))
 
 least-reached-returns-3 : (t : ℕ) → least-reached-lts.Need-returns-3 (least-reached-claims t) (least-reached-at t) least-reached.Post least-reached-Inv-loop least-reached-μ-loop
-least-reached-returns-3 t c = reach-found _ _ _ _ _ _ (c .before .before .before .before .before .before .before .before .before .before .before .before .before .before .before .kept .ensures) _ (c .before .before .before .before .before .before .before .before .before .instr-at .ensures) _ (rw (c .before .before .before .before .before .before .before .before .below .ensures) at (c .before .before .before .before .before .before .before .filled .ensures)) _ (better-on (c .before .before .before .before .before .loop .inv .1 .0) (c .before .before .before .try-at .ensures .better)) (c .if3 .taken)
+least-reached-returns-3 t c = straight-least _ _ _ _ _ (c .before .before .before .before .before .before .before .before .before .before .before .before .before .before .before .before .straight .ensures) _ _ _ _ (reach-found _ _ _ _ _ _ (c .before .before .before .before .before .before .before .before .before .before .before .before .before .before .before .kept .ensures) _ (c .before .before .before .before .before .before .before .before .before .instr-at .ensures) _ (rw (c .before .before .before .before .before .before .before .before .below .ensures) at (c .before .before .before .before .before .before .before .filled .ensures)) _ (better-on (c .before .before .before .before .before .loop .inv .1 .0) (c .before .before .before .try-at .ensures .better)) (c .if3 .taken))
 
 least-reached-following-requires : (t : ℕ) → least-reached-lts.Need-following-requires (least-reached-claims t) (least-reached-at t) least-reached.Post least-reached-Inv-loop least-reached-μ-loop
-least-reached-following-requires t c κs = (c .before .before .before .before .before .before .before .before .before .before .before .before .before .before .before .before .pre .1 .room, c .before .before .before .before .loop-test .taken)
+least-reached-following-requires t c κs = (c .before .before .before .before .before .before .before .before .before .before .before .before .before .before .before .before .before .pre .1 .room, c .before .before .before .before .loop-test .taken)
 
 least-reached-loop-less : (t : ℕ) → least-reached-lts.Need-loop-less (least-reached-claims t) (least-reached-at t) least-reached.Post least-reached-Inv-loop least-reached-μ-loop
 least-reached-loop-less t c = let l = c .before .before .before .before .before .loop-test .taken in let k = c .following .ensures .later in omega arith
@@ -147,10 +152,10 @@ least-reached-below-requires-2 : (t : ℕ) → least-reached-lts.Need-below-requ
 least-reached-below-requires-2 t c κs = search needs
 
 least-reached-own-reached-requires : (t : ℕ) → least-reached-lts.Need-own-reached-requires (least-reached-claims t) (least-reached-at t) least-reached.Post least-reached-Inv-loop least-reached-μ-loop
-least-reached-own-reached-requires t c κs = (omega (arith, c .before .before .before .before .before .before .before .before .before .before .before .before .before .pre .0), record { ready = c .before .before .before .before .before .before .before .before .before .before .before .before .before .pre .1; is-next = c .before .before .before .before .before .before .instr-at .ensures })
+least-reached-own-reached-requires t c κs = let f = c .before .before .before .before .before .before .before .before .before .before .before .before .before .straight .ensures .further in (omega (arith, c .before .before .before .before .before .before .before .before .before .before .before .before .before .before .pre .0), record { ready = c .before .before .before .before .before .before .before .before .before .before .before .before .before .straight .ensures .ready; is-next = c .before .before .before .before .before .before .instr-at .ensures })
 
 least-reached-returns-4 : (t : ℕ) → least-reached-lts.Need-returns-4 (least-reached-claims t) (least-reached-at t) least-reached.Post least-reached-Inv-loop least-reached-μ-loop
-least-reached-returns-4 t c = reach-all _ _ _ _ _ _ (c .before .before .before .before .before .before .before .before .before .before .before .before .before .kept .ensures) _ (c .before .before .before .before .before .before .before .instr-at .ensures) _ (rw (c .before .before .before .before .before .before .below .ensures) at (c .before .before .before .before .before .filled .ensures)) (c .before .before .before .before .before .before .before .before .before .before .before .before .before .before .pre .1 .room) _ _ (c .before .before .before .loop .inv .1 .0) (c .before .before .before .loop .inv .0) (c .before .before .loop-test .left) _ (rw (c .before .below2 .ensures) at (c .own-reached .ensures))
+least-reached-returns-4 t c = straight-least _ _ _ _ _ (c .before .before .before .before .before .before .before .before .before .before .before .before .before .before .straight .ensures) _ _ _ _ (reach-all _ _ _ _ _ _ (c .before .before .before .before .before .before .before .before .before .before .before .before .before .kept .ensures) _ (c .before .before .before .before .before .before .before .instr-at .ensures) _ (rw (c .before .before .before .before .before .before .below .ensures) at (c .before .before .before .before .before .filled .ensures)) (c .before .before .before .before .before .before .before .before .before .before .before .before .before .before .before .pre .1 .room) _ _ (c .before .before .before .loop .inv .1 .0) (c .before .before .before .loop .inv .0) (c .before .before .loop-test .left) _ (rw (c .before .below2 .ensures) at (c .own-reached .ensures)))
 
 own-reached-returns : (t : ℕ) → own-reached-lts.Need-returns (own-reached-claims t) (own-reached-at t) own-reached.Post
 own-reached-returns t c = least-empty _ _ _ (c .if1 .taken)
@@ -278,6 +283,7 @@ pub +least-reached+own-reached+try-again+try-at-spec : {M : Type 1} → statemen
     least-reached.Post
     least-reached-Inv-loop
     least-reached-μ-loop
+    (least-reached-straight-requires t)
     (least-reached-kept-requires t)
     (least-reached-returns t)
     (least-reached-returns-2 t)
