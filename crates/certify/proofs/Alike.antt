@@ -20,7 +20,7 @@ use Rattle.source.proofs.Tests.{or-left, or-right, and-both}
 use Rattle.machine.specs.State.{append, has, with, without, freshRegister, freshForward}
 use Rattle.machine.specs.Rules.{next, valueOf, viewOf, viewOf₂, address, combine, computeDone, branchBy, branchDone, fenceDone, storeDone, readable, noneNewer, readView, loadDone, storePre, execute, addPromise}
 use Rattle.machine.proofs.Effects.{loadLocation, loadPreView, loadPostView, storeLocation, Promised, Effect, computed, loaded, stored, branched, fenced, effect}
-use Rattle.live.specs.Live.{isRegister, eitherRegister, uses, locates, weighs, writes, skips, Live, here, later}
+use Rattle.live.specs.Live.{isRegister, eitherRegister, locates, weighs, writes, skips, Live, here, later, through}
 use Rattle.certify.specs.Below.{Code, Operand, Constant, OfRegister, ComputeMode, LoadMode, StoreMode, FenceMode, Instr, Compute, Load, Store, Branch, Fence, Memory, Register, Forward, Thread}
 use Rattle.certify.proofs.Iff.{certified-iff}
 use Rattle.certify.proofs.Lower.{Lower, raise-both, near-sum, max-low, pre-low, store-pre-low, load-views-low, store-views-low, cap-views-low, fence-views-low, none-newer-low, view-low}
@@ -33,11 +33,11 @@ use Rattle.certify.specs.Certify.{messageOf, certified}
 abbrev pub Forwarded : List Forward → List Forward → ℕ → Type 0
 Forwarded xs ys l = ((getD xs l freshForward) .time ≡ (getD ys l freshForward) .time) × ((getD xs l freshForward) .view ≤ (getD ys l freshForward) .view)
 
--- register k holds the same as far as it matters at position n: the value if a way on weighs it, modulo 16 if one takes it for a location, and no larger view
+-- register k holds the same as far as it matters at position n: the value if it is live as a value, modulo 16 if as a location; and no larger view
 pub record Agree (c : Code) (k n : ℕ) (x y : Register) : Type 0 where
-  pub same : Live weighs c k n → x .value ≡ y .value
-  pub near : Live locates c k n → address (x .value) ≡ address (y .value)
-  pub low : Live uses c k n → x .view ≤ y .view
+  pub same : Live c true k n → x .value ≡ y .value
+  pub near : Live c false k n → address (x .value) ≡ address (y .value)
+  pub low : x .view ≤ y .view
 
 -- ALIKE: as s', but for what registers hold that does not matter, and with views that are at most those of s'
 pub record Alike (c : Code) (s s' : Thread) : Type 0 where
@@ -54,31 +54,34 @@ pub record Alike (c : Code) (s s' : Thread) : Type 0 where
 -- ---- one instruction on both threads
 -- a register agrees with itself
 agree-self : (c : Code) (k n : ℕ) (x : Register) → Agree c k n x x
-agree-self c k n x = record { same = λ l. refl; near = λ l. refl; low = λ l. le-refl _ }
+agree-self c k n x = record { same = λ l. refl; near = λ l. refl; low = le-refl _ }
+
+module _ (c : Code) (s s' : Thread) (h : Alike c s s') where
+  -- an operand's view, and its value if it is live, as a value or as a location
+  operand-low : (a : Operand) → viewOf s a ≤ viewOf s' a
+  operand-low (Constant n) = le-refl 0
+  operand-low (OfRegister r) = h .registers-agree r .low
+
+  operands-low : (a b : Operand) → viewOf₂ s a b ≤ viewOf₂ s' a b
+  operands-low a b = max-low _ _ _ _ (operand-low a) (operand-low b)
+
+  operand-same : (a : Operand) → ((k : ℕ) → T (isRegister k a) → Live c true k (s' .position)) → valueOf s a ≡ valueOf s' a
+  unfolding isRegister
+  operand-same (Constant n) l = refl
+  operand-same (OfRegister r) l = h .registers-agree r .same (l r (eqb-refl r))
+
+  operand-near : (a : Operand) → ((k : ℕ) → T (isRegister k a) → Live c false k (s' .position)) → address (valueOf s a) ≡ address (valueOf s' a)
+  unfolding isRegister
+  operand-near (Constant n) l = refl
+  operand-near (OfRegister r) l = h .registers-agree r .near (l r (eqb-refl r))
 
 module _ (c : Code) (s s' : Thread) (h : Alike c s s') (x : Instr) (g : instrAt c (s' .position) ≡ some x) where
-  -- an operand that the instruction reads, in each of the three ways
-  operand-low : (a : Operand) → ((k : ℕ) → T (isRegister k a) → T (uses k x)) → viewOf s a ≤ viewOf s' a
-  unfolding isRegister
-  operand-low (Constant n) u = le-refl 0
-  operand-low (OfRegister r) u = h .registers-agree r .low (here x g (u r (eqb-refl r)))
-
-  operand-same : (a : Operand) → ((k : ℕ) → T (isRegister k a) → T (weighs k x)) → valueOf s a ≡ valueOf s' a
-  unfolding isRegister
-  operand-same (Constant n) u = refl
-  operand-same (OfRegister r) u = h .registers-agree r .same (here x g (u r (eqb-refl r)))
-
-  operand-near : (a : Operand) → ((k : ℕ) → T (isRegister k a) → T (locates k x)) → address (valueOf s a) ≡ address (valueOf s' a)
-  unfolding isRegister
-  operand-near (Constant n) u = refl
-  operand-near (OfRegister r) u = h .registers-agree r .near (here x g (u r (eqb-refl r)))
-
   -- a register that is not written, at a position that may come next
   kept-register : (n : ℕ) → (n ≡ s' .position + 1) ⊎ (n ≡ s' .position + (skips x + 1)) → (k : ℕ) → (T (writes k x) → ⊥)
       → Agree c k n (getD (s .registers) k freshRegister) (getD (s' .registers) k freshRegister)
   kept-register n f k w =
       let q = h .registers-agree k in
-      record { same = λ l. q .same (later x n g w f l); near = λ l. q .near (later x n g w f l); low = λ l. q .low (later x n g w f l) }
+      record { same = λ l. q .same (later x n g w f l); near = λ l. q .near (later x n g w f l); low = q .low }
 
   -- the registers, where r is written
   set-registers : (r : ℕ) → ((k : ℕ) → T (writes k x) → k ≡ r) → (y y' : Register) → Agree c r (s' .position + 1) y y' → (k : ℕ)
@@ -88,27 +91,21 @@ module _ (c : Code) (s s' : Thread) (h : Alike c s s') (x : Instr) (g : instrAt 
       (λ k n. kept-register (s' .position + 1) (inl refl) k (λ t. n (only k t))) (agree-self c r (s' .position + 1) freshRegister) e
 
 -- what the thread s makes of an instruction that s' executed: it executes too, and the threads stay alike
-record Followed (c : Code) (m : Memory) (t : ℕ) (s : Thread) (x : Instr) (u' : Thread) : Type 0 where
-  after : Thread
-  does : Effect m t s x after
-  alike : Alike c after u'
+pub record Followed (c : Code) (m : Memory) (t : ℕ) (s : Thread) (x : Instr) (u' : Thread) : Type 0 where
+  pub after : Thread
+  pub does : Effect m t s x after
+  pub alike : Alike c after u'
 
 -- a load: s at time t', s' at time t
 module _ (c : Code) (s s' : Thread) (h : Alike c s s') (k : LoadMode) (r : ℕ) (a b : Operand) (g : instrAt c (s' .position) ≡ some (Load k r a b)) (m : Memory) where
   same-location : loadLocation s a b ≡ loadLocation s' a b
   unfolding locates eitherRegister
   same-location =
-      near-sum _ _ _ _ (operand-near c s s' h (Load k r a b) g a (λ j t. or-left (isRegister j a) (isRegister j b) t))
-      (operand-near c s s' h (Load k r a b) g b (λ j t. or-right (isRegister j a) (isRegister j b) t))
-
-  address-low : viewOf₂ s a b ≤ viewOf₂ s' a b
-  unfolding uses eitherRegister
-  address-low =
-      max-low _ _ _ _ (operand-low c s s' h (Load k r a b) g a (λ j t. or-left (isRegister j a) (isRegister j b) t))
-      (operand-low c s s' h (Load k r a b) g b (λ j t. or-right (isRegister j a) (isRegister j b) t))
+      near-sum _ _ _ _ (operand-near c s s' h a (λ j t. here (Load k r a b) g (or-left (isRegister j a) (isRegister j b) t)))
+      (operand-near c s s' h b (λ j t. here (Load k r a b) g (or-right (isRegister j a) (isRegister j b) t)))
 
   pre-view-low : loadPreView k s a b ≤ loadPreView k s' a b
-  pre-view-low = pre-low k _ _ (s .views) (s' .views) address-low (h .views-low)
+  pre-view-low = pre-low k _ _ (s .views) (s' .views) (operands-low c s s' h a b) (h .views-low)
 
   load-writes : (j : ℕ) → T (writes j (Load k r a b)) → j ≡ r
   unfolding writes
@@ -122,13 +119,13 @@ module _ (c : Code) (s s' : Thread) (h : Alike c s s') (k : LoadMode) (r : ℕ) 
         same-position = ap (λ (n : ℕ). n + 1) (h .same-position);
         same-promises = h .same-promises;
         registers-long = length-set (s .registers) r _ ∙ h .registers-long ∙ sym (length-set (s' .registers) r _);
-        registers-agree = set-registers c s s' h (Load k r a b) g r load-writes _ _ (record { same = same .same; near = same .near; low = λ l. low });
+        registers-agree = set-registers c s s' h (Load k r a b) g r load-writes _ _ (record { same = same .same; near = same .near; low = low });
         coherence-long = length-raise (s .coherence) _ _ ∙ h .coherence-long ∙ sym (length-raise (s' .coherence) _ _);
         coherence-low = subst (λ (l : ℕ). (j : ℕ) → viewAt (raiseAt (s .coherence) l post) j ≤ viewAt (raiseAt (s' .coherence) (loadLocation s' a b) post') j) (sym same-location)
             (raise-both (s .coherence) (s' .coherence) (loadLocation s' a b) post post' (h .coherence-long) (h .coherence-low) low);
         forward-long = h .forward-long;
         forward-same = h .forward-same;
-        views-low = load-views-low k _ _ post post' (s .views) (s' .views) address-low low (h .views-low);
+        views-low = load-views-low k _ _ post post' (s .views) (s' .views) (operands-low c s s' h a b) low (h .views-low);
       }
 
   view-here : (t : ℕ) → readView s (loadLocation s a b) t ≤ readView s' (loadLocation s' a b) t
@@ -148,24 +145,16 @@ module _ (c : Code) (s s' : Thread) (h : Alike c s s') (k : LoadMode) (r : ℕ) 
       }
 
 module _ (c : Code) (s s' : Thread) (h : Alike c s s') (k : StoreMode) (a d : Operand) (g : instrAt c (s' .position) ≡ some (Store k a d)) where
-  address-view-low : viewOf s a ≤ viewOf s' a
-  unfolding uses eitherRegister
-  address-view-low = operand-low c s s' h (Store k a d) g a (λ j t. or-left (isRegister j a) (isRegister j d) t)
-
-  data-view-low : viewOf s d ≤ viewOf s' d
-  unfolding uses eitherRegister
-  data-view-low = operand-low c s s' h (Store k a d) g d (λ j t. or-right (isRegister j a) (isRegister j d) t)
-
-  pub same-place : storeLocation s a ≡ storeLocation s' a
+  same-place : storeLocation s a ≡ storeLocation s' a
   unfolding locates
-  same-place = operand-near c s s' h (Store k a d) g a (λ j t. t)
+  same-place = operand-near c s s' h a (λ j t. here (Store k a d) g t)
 
-  pub same-data : valueOf s d ≡ valueOf s' d
+  same-data : valueOf s d ≡ valueOf s' d
   unfolding weighs
-  same-data = operand-same c s s' h (Store k a d) g d (λ j t. t)
+  same-data = operand-same c s s' h d (λ j t. here (Store k a d) g t)
 
-  pub store-view-low : storePre k (viewOf s a) (viewOf s d) (s .views) ≤ storePre k (viewOf s' a) (viewOf s' d) (s' .views)
-  store-view-low = store-pre-low k _ _ _ _ (s .views) (s' .views) address-view-low data-view-low (h .views-low)
+  store-view-low : storePre k (viewOf s a) (viewOf s d) (s .views) ≤ storePre k (viewOf s' a) (viewOf s' d) (s' .views)
+  store-view-low = store-pre-low k _ _ _ _ (s .views) (s' .views) (operand-low c s s' h a) (operand-low c s s' h d) (h .views-low)
 
   store-writes : (j : ℕ) → T (writes j (Store k a d)) → ⊥
   unfolding writes
@@ -196,21 +185,24 @@ module _ (c : Code) (s s' : Thread) (h : Alike c s s') (k : StoreMode) (a d : Op
           forward-long = length-set (s .forward) _ _ ∙ h .forward-long ∙ sym (length-set (s' .forward) _ _);
           forward-same = subst (λ (l : ℕ). (j : ℕ) → Forwarded (set (s .forward) l (record { time = t; view = max (viewOf s a) (viewOf s d) })) (set (s' .forward) (storeLocation s' a) (record { time = t; view = max (viewOf s' a) (viewOf s' d) })) j) (sym same-place)
               (set-both (λ (j : ℕ) (x y : Forward). (x .time ≡ y .time) × (x .view ≤ y .view)) freshForward _ _ (s .forward) (s' .forward) (storeLocation s' a) (h .forward-long) (λ j n. h .forward-same j) (refl, le-refl 0)
-              (refl, max-low _ _ _ _ address-view-low data-view-low));
-          views-low = store-views-low k t _ _ (s .views) (s' .views) address-view-low (h .views-low);
+              (refl, operands-low c s s' h a d));
+          views-low = store-views-low k t _ _ (s .views) (s' .views) (operand-low c s s' h a) (h .views-low);
         };
       }
 
 module _ (c : Code) (s s' : Thread) (h : Alike c s s') where
+  -- a compute whose result is live, as a value or as a location, makes its operands live as values
+  same-result : (k : ComputeMode) (r : ℕ) (a b : Operand) → instrAt c (s' .position) ≡ some (Compute k r a b) → {v : Bool} → Live c v r (s' .position + 1)
+      → combine k (valueOf s a) (valueOf s b) ≡ combine k (valueOf s' a) (valueOf s' b)
+  unfolding eitherRegister
+  same-result k r a b g l =
+      ap₂ (combine k) (operand-same c s s' h a (λ j t. through k r a b g (or-left (isRegister j a) (isRegister j b) t) l))
+      (operand-same c s s' h b (λ j t. through k r a b g (or-right (isRegister j a) (isRegister j b) t) l))
+
   compute-follows : (k : ComputeMode) (r : ℕ) (a b : Operand) (m : Memory) (t : ℕ) → instrAt c (s' .position) ≡ some (Compute k r a b) → t ≡ 0
       → Followed c m t s (Compute k r a b) (computeDone k r a b s')
-  unfolding uses weighs writes eitherRegister
+  unfolding writes
   compute-follows k r a b m t g e =
-      let x = Compute k r a b in
-      let inA : (j : ℕ) → T (isRegister j a) → T (isRegister j a || isRegister j b) = λ j u. or-left (isRegister j a) (isRegister j b) u in
-      let inB : (j : ℕ) → T (isRegister j b) → T (isRegister j a || isRegister j b) = λ j u. or-right (isRegister j a) (isRegister j b) u in
-      let v = ap₂ (combine k) (operand-same c s s' h x g a inA) (operand-same c s s' h x g b inB) in
-      let low = max-low _ _ _ _ (operand-low c s s' h x g a inA) (operand-low c s s' h x g b inB) in
       record {
         after = computeDone k r a b s;
         does = computed e;
@@ -218,7 +210,8 @@ module _ (c : Code) (s s' : Thread) (h : Alike c s s') where
           same-position = ap (λ (n : ℕ). n + 1) (h .same-position);
           same-promises = h .same-promises;
           registers-long = length-set (s .registers) r _ ∙ h .registers-long ∙ sym (length-set (s' .registers) r _);
-          registers-agree = set-registers c s s' h x g r (λ j u. sym (eqb→eq r j u)) _ _ (record { same = λ l. v; near = λ l. ap address v; low = λ l. low });
+          registers-agree = set-registers c s s' h (Compute k r a b) g r (λ j u. sym (eqb→eq r j u)) _ _
+              (record { same = same-result k r a b g; near = λ l. ap address (same-result k r a b g l); low = operands-low c s s' h a b });
           coherence-long = h .coherence-long;
           coherence-low = h .coherence-low;
           forward-long = h .forward-long;
@@ -246,14 +239,12 @@ module _ (c : Code) (s s' : Thread) (h : Alike c s s') where
       let x = Branch (suc n) a b in
       let some-skipped : T (not (eqb (suc n) 0)) = subst (λ (o : Bool). T (not o)) (sym (ne-eqb (suc n) 0 (λ z. omega arith))) tt in
       ap₂ (λ (v w : ℕ). branchBy (eqb v w) (suc n))
-      (operand-same c s s' h x g a (λ j u. and-both (not (eqb (suc n) 0)) (isRegister j a || isRegister j b) some-skipped (or-left (isRegister j a) (isRegister j b) u)))
-      (operand-same c s s' h x g b (λ j u. and-both (not (eqb (suc n) 0)) (isRegister j a || isRegister j b) some-skipped (or-right (isRegister j a) (isRegister j b) u)))
+      (operand-same c s s' h a (λ j u. here x g (and-both (not (eqb (suc n) 0)) (isRegister j a || isRegister j b) some-skipped (or-left (isRegister j a) (isRegister j b) u))))
+      (operand-same c s s' h b (λ j u. here x g (and-both (not (eqb (suc n) 0)) (isRegister j a || isRegister j b) some-skipped (or-right (isRegister j a) (isRegister j b) u))))
 
   branch-follows : (n : ℕ) (a b : Operand) (m : Memory) (t : ℕ) → instrAt c (s' .position) ≡ some (Branch n a b) → t ≡ 0 → Followed c m t s (Branch n a b) (branchDone n a b s')
-  unfolding uses writes eitherRegister
+  unfolding writes
   branch-follows n a b m t g e =
-      let x = Branch n a b in
-      let low = max-low _ _ _ _ (operand-low c s s' h x g a (λ j u. or-left (isRegister j a) (isRegister j b) u)) (operand-low c s s' h x g b (λ j u. or-right (isRegister j a) (isRegister j b) u)) in
       record {
         after = branchDone n a b s;
         does = branched e;
@@ -261,12 +252,12 @@ module _ (c : Code) (s s' : Thread) (h : Alike c s s') where
           same-position = ap₂ (λ (i j : ℕ). i + j) (h .same-position) (same-way n a b g);
           same-promises = h .same-promises;
           registers-long = h .registers-long;
-          registers-agree = λ j. kept-register c s s' h x g _ (branch-next (eqb (valueOf s' a) (valueOf s' b)) n a b) j (λ u. u);
+          registers-agree = λ j. kept-register c s s' h (Branch n a b) g _ (branch-next (eqb (valueOf s' a) (valueOf s' b)) n a b) j (λ u. u);
           coherence-long = h .coherence-long;
           coherence-low = h .coherence-low;
           forward-long = h .forward-long;
           forward-same = h .forward-same;
-          views-low = cap-views-low _ _ (s .views) (s' .views) low (h .views-low);
+          views-low = cap-views-low _ _ (s .views) (s' .views) (operands-low c s s' h a b) (h .views-low);
         };
       }
 
@@ -289,7 +280,7 @@ module _ (c : Code) (s s' : Thread) (h : Alike c s s') where
         };
       }
 
-  follows : {m : Memory} {t : ℕ} {x : Instr} {u' : Thread} → instrAt c (s' .position) ≡ some x → Effect m t s' x u' → Followed c m t s x u'
+  pub follows : {m : Memory} {t : ℕ} {x : Instr} {u' : Thread} → instrAt c (s' .position) ≡ some x → Effect m t s' x u' → Followed c m t s x u'
   follows {m} {t} g (computed {k} {r} {a} {b} e) = compute-follows k r a b m t g e
   follows {m} {t} g (loaded {k} {r} {a} {b} d n) = load-follows c s s' h k r a b g m t d n
   follows {m} {t} g (stored {k} {a} {d} p x y) = store-follows c s s' h k a d g m t p x y
@@ -327,7 +318,7 @@ with-promise m h =
     }
 
 -- the message of a store is the same
-same-message : (c : Code) (i : ℕ) (s s' : Thread) → Alike c s s' → (x : Instr) → instrAt c (s' .position) ≡ some x → messageOf i s x ≡ messageOf i s' x
+pub same-message : (c : Code) (i : ℕ) (s s' : Thread) → Alike c s s' → (x : Instr) → instrAt c (s' .position) ≡ some x → messageOf i s x ≡ messageOf i s' x
 same-message c i s s' h (Compute k r a b) g = refl
 same-message c i s s' h (Load k r a b) g = refl
 same-message c i s s' h (Store k a d) g = ap₂ (λ (l v : ℕ). some (record { location = l; value = v; thread = i })) (same-place c s s' h k a d g) (same-data c s s' h k a d g)
@@ -335,9 +326,9 @@ same-message c i s s' h (Branch n a b) g = refl
 same-message c i s s' h (Fence k) g = refl
 
 -- THE MONOTONE LAW: what a thread alone can come to, one alike can come to, if the goal passes with what is alike
-pub comes-alike : {Goal : Thread → Type 0} {Room : Memory → Type 0} {c : Code} {i : ℕ} → ((s s' : Thread) → Alike c s s' → Goal s' → Goal s)
+pub comes-alike : {Goal : Memory → Thread → Type 0} {Room : Memory → Type 0} {c : Code} {i : ℕ} → ((m : Memory) (s s' : Thread) → Alike c s s' → Goal m s' → Goal m s)
     → {m : Memory} {s s' : Thread} → Alike c s s' → Comes Goal Room c i m s' → Comes Goal Room c i m s
-comes-alike pass {m} {s} {s'} h (done e) = done (pass s s' h e)
+comes-alike pass {m} {s} {s'} h (done e) = done (pass m s s' h e)
 comes-alike {c = c} pass {m} {s} {s'} h (by x t u g tl e r) =
     let w = follows c s s' h g (effect x m t s' u e) in
     by x t (w .after) (ap (instrAt c) (h .same-position) ∙ g) tl (executes (w .does)) (comes-alike pass (w .alike) r)
@@ -349,7 +340,7 @@ comes-alike {c = c} {i} pass {m} {s} {s'} h (own x w u g gw room e r) =
 -- so it is for certification
 pub monotone : (c : Code) (i : ℕ) (m : Memory) (s s' : Thread) → Alike c s s' → T (certified c i m s') → T (certified c i m s)
 monotone c i m s s' h t =
-    certified-iff c i m s .1 (comes-alike (λ u u' a e. a .same-promises ∙ e) h (certified-iff c i m s' .0 t))
+    certified-iff c i m s .1 (comes-alike (λ m u u' a e. a .same-promises ∙ e) h (certified-iff c i m s' .0 t))
 
 -- ---- tries of a load at two times
 module _ (c : Code) (m : Memory) (s : Thread) (k : LoadMode) (r : ℕ) (a b : Operand) (at : instrAt c (s .position) ≡ some (Load k r a b)) where

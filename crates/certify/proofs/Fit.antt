@@ -35,7 +35,7 @@ pub data Owned (i : ℕ) (m : Memory) (w : Message) (s : Thread) : Instr → Thr
   owned : {k : StoreMode} {a d : Operand} → w ≡ record { location = storeLocation s a; value = valueOf s d; thread = i }
       → Owned i m w s (Store k a d) (storeDone k (m .count + 1) (storeLocation (addPromise (append m w) s) a) (viewOf (addPromise (append m w) s) a) (viewOf (addPromise (append m w) s) d) (addPromise (append m w) s))
 
-no-message : {w : Message} → none ≡ some w → ⊥
+pub no-message : {w : Message} → none ≡ some w → ⊥
 no-message {w} e = let z : _≡_ {A = ℕ} 0 1 = cc in omega arith
 
 -- an instruction that has a message of its own, read backwards
@@ -56,9 +56,9 @@ own-store (owned e) = refl
 
 -- ---- along a run
 -- where the goal has stores enough left for all promises, so has each state from which it is reached
-pub comes-fit : {Goal : Thread → Type 0} {Room : Memory → Type 0} {c : Code} {i : ℕ} → ((s : Thread) → Goal s → outstanding s ≤ storesFrom c (s .position))
+pub comes-fit : {Goal : Memory → Thread → Type 0} {Room : Memory → Type 0} {c : Code} {i : ℕ} → ((m : Memory) (s : Thread) → Goal m s → outstanding s ≤ storesFrom c (s .position))
     → {m : Memory} {s : Thread} → Comes Goal Room c i m s → outstanding s ≤ storesFrom c (s .position)
-comes-fit f {m} {s} (done g) = f s g
+comes-fit f {m} {s} (done g) = f m s g
 comes-fit {c = c} f {m} {s} (by x t s' g tl e r) =
     let h = effect x m t s s' e in
     let a = comes-fit f r in
@@ -76,7 +76,7 @@ comes-fit {c = c} {i} f {m} {s} (own x w s' g gw room e r) =
 
 -- a run has no more promises to fulfil than stores to come
 pub fits : {Room : Memory → Type 0} {c : Code} {i : ℕ} {m : Memory} {s : Thread} → Run Room c i m s → outstanding s ≤ storesFrom c (s .position)
-fits r = comes-fit (λ s e. let z = ones-none in let f = ap ones e in omega arith) r
+fits r = comes-fit (λ m s e. let z = ones-none in let f = ap ones e in omega arith) r
 
 -- PROMISES FIT: a certified thread has no more promises outstanding than stores at its position and after it
 pub promises-fit : (c : Code) (i : ℕ) (m : Memory) (s : Thread) → T (certified c i m s) → outstanding s ≤ storesFrom c (s .position)

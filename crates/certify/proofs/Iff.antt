@@ -76,7 +76,7 @@ run-of (suc n) c i m s h =
     (or-cases (eqb (s .promises) 0) (oneMore (certify n c i) i m s (instrAt c (s .position))) h)
 
 -- ---- from a run to the test
-onward-next : (f : Thread → Bool) (o : Executed) (s' : Thread) → o ≡ next s' → T (f s') → T (onward f o)
+pub onward-next : (f : Thread → Bool) (o : Executed) (s' : Thread) → o ≡ next s' → T (f s') → T (onward f o)
 onward-next f o s' e h = subst (λ (x : Executed). T (onward f x)) (sym e) h
 
 module _ (f : Memory → Thread → Bool) (i : ℕ) (m : Memory) (s : Thread) (x : Instr) where

@@ -66,7 +66,7 @@ module _ (c : Code) (m : Memory) (y y' : Thread) (x : Instr) (g : instrAt c (y .
   plain-back : (i h k : ℕ) → Meets c i m y h k → Meets c i m y' h k
   unfolding isPlain
   plain-back i h k (done (inl z)) = done (inl (z .0, plain-promises p f ∙ z .1))
-  plain-back i h k (done (inr (x', g', w))) = absurd (subst (λ (v : Instr). T (isPlain v)) (some-same x x' (sym g ∙ g') ∙ w .is-store) p)
+  plain-back i h k (done (inr (x', g', w))) = absurd (plain-silent x p i y (w .message) (ap (messageOf i y) (some-same x x' (sym g ∙ g')) ∙ w .is-own))
   plain-back i h k (by x' t s' g' tl e w) =
       let e' = subst (λ (v : Instr). execute v m t y ≡ next s') (sym (some-same x x' (sym g ∙ g'))) e in
       subst (λ (v : Thread). Meets c i m v h k) (plain-same p f (effect x m t y s' e')) w

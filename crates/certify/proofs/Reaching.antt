@@ -4,35 +4,35 @@ use mathlib.Core.Path.{_≡_, refl, sym, ap, ap₂, _∙_, subst, subst₂}
 use mathlib.Core.Logic.{_⊎_, inl, inr, ⊎-elim}
 use mathlib.Core.Bool.{Bool, true, false, not}
 use mathlib.Core.Option.{none, some}
-use Prim.Native.Nat.{ℕ, _+_, _-_, _*_, _≤_, _<_}
-use native.Mathlib.Nat.{le-refl, lt-of-le-of-lt}
+use Prim.Native.Nat.{ℕ, suc, _+_, _-_, _*_, _≤_, _<_}
+use native.Mathlib.Nat.{le-refl}
 use native.Mathlib.Decide.{decLt}
 use native.Mathlib.Omega.{arith}
 use lib.Count.{ones}
-use lib.Dec.{T, eqb, ltb, eqb→eq, ltb→lt, lt→ltb}
-use Rattle.views.specs.Views.{viewAt}
+use lib.Dec.{T, eqb, ltb, eqb→eq, ltb→lt}
 use Rattle.source.specs.Program.{instrAt}
 use Rattle.source.specs.Counts.{storesFrom}
-use Rattle.source.proofs.Counts.{there, stores-fall}
+use Rattle.source.proofs.Counts.{there, stores-past, stores-fall}
 use Rattle.source.proofs.Tests.{eq→eqb, is-true, is-false}
-use Rattle.machine.specs.State.{append}
-use Rattle.machine.specs.Rules.{refused, next, valueOf, viewOf, viewOf₂, address, loadDone, storePre, execute, addPromise}
+use Rattle.machine.specs.State.{append, has}
+use Rattle.machine.specs.Rules.{refused, next, viewOf₂, loadDone, execute, addPromise}
 use Rattle.machine.specs.Answers.{ruled, storeMessage, ownStore}
 use Rattle.machine.specs.declared.RuleAnswer.the-variants.{Done, Refused}
 use Rattle.machine.specs.declared.Ruled.{Ruled}
-use Rattle.machine.proofs.Sets.{ones-none}
+use Rattle.machine.proofs.Sets.{has-positive, has-time, ones-none}
 use Rattle.machine.proofs.Cases.{was-true, ruled-done, ruled-refused}
-use Rattle.machine.proofs.Effects.{loadLocation, loadPostView, effect, effect-time, moves}
+use Rattle.machine.proofs.Effects.{loadLocation, loadPostView, Effect, computed, loaded, stored, branched, fenced, effect, effect-time, moves}
 use Rattle.certify.specs.Below.{Code, Operand, StoreMode, Instr, Load, Store, Message, Memory, Thread}
-use Rattle.certify.specs.Certify.{messageOf, certified}
+use Rattle.certify.specs.Certify.{messageOf, onward, certified}
 use Rattle.certify.specs.Answers.{Trying, Earliest, Following}
 use Rattle.certify.specs.Runs.{Comes, done, by, own}
-use Rattle.certify.specs.Sought.{Sought, Tried, Fills, Aim, Better, Least, Meets, Owns, Missed, Went}
+use Rattle.certify.specs.Sought.{Sought, Tried, fill, Fills, Aim, Better, Least, Meets, Owns, Missed, Went}
 use Rattle.certify.specs.Tries.{Grain, Vain}
 use Rattle.certify.proofs.Tries.{vain-matches, grain-other}
-use Rattle.certify.proofs.Iff.{certified-iff}
-use Rattle.certify.proofs.Fit.{own-effect, own-leaves, comes-fit}
-use Rattle.certify.proofs.Alike.{Alike, comes-alike, same-place, same-data, store-view-low, later-done, in-vain}
+use Rattle.certify.proofs.Iff.{onward-inv, onward-next, certified-iff}
+use Rattle.certify.proofs.Executes.{executes}
+use Rattle.certify.proofs.Fit.{takes, no-message, own-effect, own-leaves, comes-fit, promises-fit}
+use Rattle.certify.proofs.Alike.{Alike, follows, same-message, comes-alike, monotone, later-done, in-vain}
 
 -- ---- constructors
 some-same : (x y : Instr) → some x ≡ some y → x ≡ y
@@ -43,6 +43,10 @@ message-same {x} {y} e = cc
 
 next-same : {s s' : Thread} → next s ≡ next s' → s ≡ s'
 next-same {s} {s'} e = cc
+
+not-both : (b : Bool) → T b → not b ≡ true → ⊥
+not-both true t z = subst T (sym z) tt
+not-both false t z = t
 
 -- ---- numbers found
 -- none
@@ -74,11 +78,7 @@ better-same from best P = record { low = le-refl best; hit = λ h. absurd (omega
 -- ---- the goals
 -- an empty promise set
 pub kept-not : (q : Sought) (set : ℕ) (b : Bool) → b ≡ eqb set 0 → not b ≡ true → Least (q .from) (q .best) (λ k. (q .hole ≡ 0) × (set ≡ 0)) (q .best)
-kept-not q set b e n = least-none (q .from) (q .best) (λ k. (q .hole ≡ 0) × (set ≡ 0)) (λ k l h p. go b (subst T (sym e) (eq→eqb (p .1))) n)
-  where
-    go : (b : Bool) → T b → not b ≡ true → ⊥
-    go true t z = subst T (sym z) tt
-    go false t z = t
+kept-not q set b e n = least-none (q .from) (q .best) (λ k. (q .hole ≡ 0) × (set ≡ 0)) (λ k l h p. not-both b (subst T (sym e) (eq→eqb (p .1))) n)
 
 pub kept-now : (q : Sought) (set : ℕ) → q .hole ≡ 0 → (b : Bool) → b ≡ eqb set 0 → not b ≡ false → q .from < q .best → Least (q .from) (q .best) (λ k. (q .hole ≡ 0) × (set ≡ 0)) (q .from)
 kept-now q set z b e n l =
@@ -88,87 +88,129 @@ kept-now q set z b e n l =
 crowds : (n p : ℕ) (b : Bool) → b ≡ ltb n p → b ≡ true → n < p
 crowds n p b e z = ltb→lt n p (subst T (sym (sym e ∙ z)) tt)
 
-fits-there : (n p : ℕ) (b : Bool) → b ≡ ltb n p → b ≡ false → p ≤ n
-fits-there n p b e z = elim (decLt n p) [ yes h ↦ absurd (subst T (sym e ∙ z) (lt→ltb n p h)) | no h ↦ omega arith ]
+aim-fits : (c : Code) (i h k : ℕ) (m : Memory) (s : Thread) → Aim c i h k m s → ones (s .promises) ≤ storesFrom c (s .position)
+aim-fits c i h k m s (inl p) = let z = ones-none in let f = ap ones (p .1) in omega arith
+aim-fits c i h k m s (inr (x, g, f)) =
+    let m' = fill m h (f .message) in
+    let q = onward-inv (certified c i m') (execute x m' h s) (f .keeps) in
+    let does = effect x m' h s (q .0) (q .1) in
+    let a = promises-fit c i m' (q .0) (q .2) in
+    let b = takes does in
+    let d = stores-past c (s .position) x g in
+    let l = stores-fall c (suc (s .position)) (q .0 .position) (moves does) in
+    omega arith
 
-aim-fits : (c : Code) (h k : ℕ) (s : Thread) → Aim c h k s → ones (s .promises) ≤ storesFrom c (s .position)
-aim-fits c h k s (inl p) = let z = ones-none in let f = ap ones (p .1) in omega arith
-aim-fits c h k s (inr (x, g, f)) = f .enough
+-- ---- a store that fills the hole
+-- what executes with a message of its own fulfils a promise
+own-out : (i : ℕ) {m : Memory} {w : Message} {t : ℕ} {s : Thread} {x : Instr} {s' : Thread} → messageOf i s x ≡ some w → Effect m t s x s' → T (has (s .promises) t)
+own-out i g (computed e) = absurd (no-message g)
+own-out i g (loaded r n) = absurd (no-message g)
+own-out i g (stored p a b) = p .out
+own-out i g (branched e) = absurd (no-message g)
+own-out i g (fenced e) = absurd (no-message g)
 
--- a store's mode and operands
-store-same : (k k' : StoreMode) (a a' d d' : Operand) → Store k a d ≡ Store k' a' d' → (k ≡ k') × (a ≡ a') × (d ≡ d')
-store-same k k' a a' d d' e = (cc, cc, cc)
+fills-out : {c : Code} {i : ℕ} {x : Instr} {h k : ℕ} {m : Memory} {s : Thread} → Fills c i x h k m s → T (has (s .promises) h)
+fills-out {c} {i} {x} {h} {k} {m} {s} f =
+    let m' = fill m h (f .message) in
+    let q = onward-inv (certified c i m') (execute x m' h s) (f .keeps) in
+    own-out i (f .is-own) (effect x m' h s (q .0) (q .1))
 
--- a store that fills the hole at h as number n
-abbrev Facts : ℕ → Thread → ℕ → StoreMode → Operand → Operand → Type 0
-Facts h s n k a d = (256 * address (valueOf s a) + valueOf s d ≡ n) × (storePre k (viewOf s a) (viewOf s d) (s .views) < h) × (viewAt (s .coherence) (address (valueOf s a)) < h)
+module _ (c : Code) (i : ℕ) (x : Instr) (h : ℕ) (m : Memory) (s : Thread) (from best : ℕ) where
+  -- no promise is at its time
+  pub fill-no-hole : (b : Bool) → b ≡ has (s .promises) h → not b ≡ true → Least from best (λ j. Fills c i x h j m s) best
+  fill-no-hole b e n = least-none from best (λ j. Fills c i x h j m s) (λ j u v f. not-both b (subst T (sym e) (fills-out f)) n)
 
-module _ (c : Code) (x : Instr) (h : ℕ) (s : Thread) (k : StoreMode) (a d : Operand) (is : x ≡ Store k a d) where
-  fills-facts : (n : ℕ) → Fills c x h n s → Facts h s n k a d
-  fills-facts n q =
-      let e = store-same _ _ _ _ _ _ (sym (q .is-store) ∙ is) in
-      subst (Facts h s n k a) (e .2) (subst (λ (y : Operand). Facts h s n k y (q .d)) (e .1) (subst (λ (y : StoreMode). Facts h s n y (q .a) (q .d)) (e .0) (q .number, q .early, q .coherent)))
+  -- what is no store fills nothing
+  pub fill-none : messageOf i s x ≡ none → Least from best (λ j. Fills c i x h j m s) best
+  fill-none e = least-none from best (λ j. Fills c i x h j m s) (λ j u v f. no-message (sym e ∙ f .is-own))
 
-  module _ (from best : ℕ) where
-    pub fill-late : (n : ℕ) → n ≡ storePre k (viewOf s a) (viewOf s d) (s .views) → h ≤ n → Least from best (λ j. Fills c x h j s) best
-    fill-late n e l = least-none from best (λ j. Fills c x h j s) (λ j u v q. let f = fills-facts j q .1 in omega arith)
+  -- the one store, by the number that is sought
+  module _ (k : StoreMode) (a d : Operand) (is : x ≡ Store k a d) (w : Message) (we : w ≡ storeMessage i a d s) (r : ℕ) (l : Least from best (λ j. 256 * w .location + w .value ≡ j) r) where
+    fill-message : (j : ℕ) (f : Fills c i x h j m s) → f .message ≡ w
+    fill-message j f = message-same (sym (f .is-own) ∙ ap (messageOf i s) is) ∙ sym we
 
-    pub fill-high : (n : ℕ) → n ≡ viewAt (s .coherence) (address (valueOf s a)) → h ≤ n → Least from best (λ j. Fills c x h j s) best
-    fill-high n e l = least-none from best (λ j. Fills c x h j s) (λ j u v q. let f = fills-facts j q .2 in omega arith)
+    fill-number : (j : ℕ) → Fills c i x h j m s → 256 * w .location + w .value ≡ j
+    fill-number j f = subst (λ (y : Message). 256 * y .location + y .value ≡ j) (fill-message j f) (f .number)
 
-    pub fill-crowded : (b : Bool) → b ≡ ltb (storesFrom c (s .position)) (ones (s .promises)) → b ≡ true → Least from best (λ j. Fills c x h j s) best
-    fill-crowded b e z = least-none from best (λ j. Fills c x h j s) (λ j u v q. let f = q .enough in let g = crowds (storesFrom c (s .position)) (ones (s .promises)) b e z in omega arith)
+    pub fill-unsought : best ≤ r → Least from best (λ j. Fills c i x h j m s) best
+    fill-unsought b = least-none from best (λ j. Fills c i x h j m s) (λ j u v f. l .least j u (omega arith) (fill-number j f))
 
-    pub fill-here : (b : Bool) → b ≡ ltb (storesFrom c (s .position)) (ones (s .promises)) → b ≡ false → (p w : ℕ) → p ≡ storePre k (viewOf s a) (viewOf s d) (s .views) → p < h → w ≡ viewAt (s .coherence) (address (valueOf s a)) → w < h
-        → (v r : ℕ) → v ≡ 256 * address (valueOf s a) + valueOf s d → Least from best (λ j. v ≡ j) r → Least from best (λ j. Fills c x h j s) r
-    fill-here b be bl p w pe pl we wl v r ve f =
-        least-as from best (λ j. v ≡ j) (λ j. Fills c x h j s) r
-        (λ j e. record { mode = k; a = a; d = d; is-store = is; number = sym ve ∙ e; early = subst (λ (y : ℕ). y < h) pe pl; coherent = subst (λ (y : ℕ). y < h) we wl; enough = fits-there _ _ b be bl }) (λ j q. ve ∙ fills-facts j q .0) f
+    module _ (m' : Memory) (me : m' ≡ fill m h w) (b : Bool) (e : b ≡ onward (certified c i m') (execute (Store k a d) m' h s)) where
+      pub fill-here : b ≡ true → Least from best (λ j. Fills c i x h j m s) r
+      fill-here t =
+          least-as from best (λ j. 256 * w .location + w .value ≡ j) (λ j. Fills c i x h j m s) r
+          (λ j q. record {
+            message = w;
+            is-own = ap (messageOf i s) is ∙ ap some (sym we);
+            number = q;
+            keeps = subst (λ (y : Memory). T (onward (certified c i y) (execute x y h s))) me
+                (subst (λ (y : Instr). T (onward (certified c i m') (execute y m' h s))) (sym is) (subst T (sym (sym e ∙ t)) tt));
+          })
+          fill-number l
 
--- without a hole nothing is filled
-pub fill-no-hole : (c : Code) (x : Instr) (h : ℕ) (s : Thread) (from best : ℕ) → h ≡ 0 → Least from best (λ j. Fills c x h j s) best
-fill-no-hole c x h s from best z = least-none from best (λ j. Fills c x h j s) (λ j u v q. let e = q .early in omega arith)
+      pub fill-fails : b ≡ false → Least from best (λ j. Fills c i x h j m s) best
+      fill-fails z =
+          least-none from best (λ j. Fills c i x h j m s) (λ j u v f.
+          let at : fill m h (f .message) ≡ m' = ap (fill m h) (fill-message j f) ∙ sym me in
+          subst T (sym e ∙ z) (subst (λ (y : Instr). T (onward (certified c i m') (execute y m' h s))) is
+          (subst (λ (y : Memory). T (onward (certified c i y) (execute x y h s))) at (f .keeps))))
 
--- what is no store fills nothing
-pub fill-none : (c : Code) (x : Instr) (h : ℕ) (s : Thread) (from best : ℕ) → messageOf 0 s x ≡ none → Least from best (λ j. Fills c x h j s) best
-fill-none c x h s from best e = least-none from best (λ j. Fills c x h j s) (λ j u v q. go (subst (λ (y : Instr). messageOf 0 s y ≡ none) (q .is-store) e))
-  where
-    go : {w : Message} → some w ≡ none → ⊥
-    go {w} z = let y : _≡_ {A = ℕ} 0 1 = cc in omega arith
+-- the hole is at a time of the memory
+pub hole-time : (c : Code) (m : Memory) (s : Thread) (x : Instr) → Trying c m s x → (h : ℕ) (b : Bool) → b ≡ has (s .promises) h → not b ≡ false → (0 < h) × (h ≤ 16)
+hole-time c m s x w h b e n =
+    let out : T (has (s .promises) h) = subst T (sym (was-true e n)) tt in
+    let l = has-time (s .promises) (m .count) h (w .ready .promises-in) out in
+    let room = w .ready .room in
+    (has-positive (s .promises) h out, omega arith)
+
+-- with it filled the thread has the same next instruction
+pub trying-filled : {c : Code} {m m' : Memory} {s : Thread} {x y : Instr} (h : ℕ) (w : Message) → Trying c m s x → m' ≡ fill m h w → x ≡ y → Trying c m' s y
+trying-filled {c} {m} {m'} {s} {x} {y} h w t me e =
+    subst (λ (z : Memory). Trying c z s y) (sym me)
+    (record { ready = record { code-ok = t .ready .code-ok; room = t .ready .room; promises-in = t .ready .promises-in }; is-next = t .is-next ∙ ap some e })
+
+-- whether the instruction can be executed and the thread is then certified
+module _ (c : Code) (i : ℕ) (m : Memory) (s : Thread) (x : Instr) (t : ℕ) (u : Ruled) (e : u ≡ ruled s (execute x m t s)) where
+  pub keeps-refused : (n : ℕ) → u .answer ≡ Refused n → false ≡ onward (certified c i m) (execute x m t s)
+  keeps-refused n z = ap (onward (certified c i m)) (sym (ruled-refused s (execute x m t s) u n e z))
+
+  pub keeps-done : u .answer ≡ Done → (b : Bool) → b ≡ certified c i m (u .thread) → b ≡ onward (certified c i m) (execute x m t s)
+  keeps-done z b be = be ∙ ap (onward (certified c i m)) (sym (ruled-done s (execute x m t s) u e z))
+
+-- without promises it is
+pub certified-empty : (c : Code) (i : ℕ) (m : Memory) (s : Thread) (b : Bool) → b ≡ eqb (s .promises) 0 → b ≡ true → true ≡ certified c i m s
+certified-empty c i m s b e t = sym (is-true (certified c i m s) (certified-iff c i m s .1 (done (eqb→eq (s .promises) 0 (subst T (sym (sym e ∙ t)) tt)))))
 
 -- ---- what is alike comes to the same
-aim-alike : (c : Code) (h k : ℕ) (s s' : Thread) → Alike c s s' → Aim c h k s' → Aim c h k s
-aim-alike c h k s s' q (inl p) = inl (p .0, q .same-promises ∙ p .1)
-aim-alike c h k s s' q (inr (x, g, f)) =
-    let g' : instrAt c (s' .position) ≡ some (Store (f .mode) (f .a) (f .d)) = g ∙ ap some (f .is-store) in
-    let place = same-place c s s' q (f .mode) (f .a) (f .d) g' in
+aim-alike : (c : Code) (i h k : ℕ) (m : Memory) (s s' : Thread) → Alike c s s' → Aim c i h k m s' → Aim c i h k m s
+aim-alike c i h k m s s' q (inl p) = inl (p .0, q .same-promises ∙ p .1)
+aim-alike c i h k m s s' q (inr (x, g, f)) =
+    let m' = fill m h (f .message) in
+    let on = onward-inv (certified c i m') (execute x m' h s') (f .keeps) in
+    let w = follows c s s' q g (effect x m' h s' (on .0) (on .1)) in
     inr (
       x,
       ap (instrAt c) (q .same-position) ∙ g,
       record {
-        mode = f .mode;
-        a = f .a;
-        d = f .d;
-        is-store = f .is-store;
-        number = ap₂ (λ (l v : ℕ). 256 * l + v) place (same-data c s s' q (f .mode) (f .a) (f .d) g') ∙ f .number;
-        early = lt-of-le-of-lt (store-view-low c s s' q (f .mode) (f .a) (f .d) g') (f .early);
-        enough = subst₂ (λ (p n : ℕ). ones p ≤ storesFrom c n) (sym (q .same-promises)) (sym (q .same-position)) (f .enough);
-        coherent = subst (λ (l : ℕ). viewAt (s .coherence) l < h) (sym place) (lt-of-le-of-lt (q .coherence-low (address (valueOf s' (f .a)))) (f .coherent));
+        message = f .message;
+        is-own = same-message c i s s' q x g ∙ f .is-own;
+        number = f .number;
+        keeps = onward-next (certified c i m') (execute x m' h s) (w .after) (executes (w .does)) (monotone c i m' (w .after) (on .0) (w .alike) (on .2));
       },
     )
 
 meets-alike : {c : Code} {i : ℕ} {m : Memory} {s s' : Thread} {h k : ℕ} → Alike c s s' → Meets c i m s' h k → Meets c i m s h k
-meets-alike {c} {h = h} {k} q r = comes-alike (aim-alike c h k) q r
+meets-alike {c} {i} {h = h} {k} q r = comes-alike (aim-alike c i h k) q r
 
 -- ---- without a hole it is certification
-comes-as : {Goal Goal' : Thread → Type 0} {Room : Memory → Type 0} {c : Code} {i : ℕ} → ((s : Thread) → Goal s → Goal' s) → {m : Memory} {s : Thread} → Comes Goal Room c i m s → Comes Goal' Room c i m s
-comes-as f {m} {s} (done g) = done (f s g)
+comes-as : {Goal Goal' : Memory → Thread → Type 0} {Room : Memory → Type 0} {c : Code} {i : ℕ} → ((m : Memory) (s : Thread) → Goal m s → Goal' m s) → {m : Memory} {s : Thread} → Comes Goal Room c i m s → Comes Goal' Room c i m s
+comes-as f {m} {s} (done g) = done (f m s g)
 comes-as f (by x t s' g tl e r) = by x t s' g tl e (comes-as f r)
 comes-as f (own x w s' g gw room e r) = own x w s' g gw room e (comes-as f r)
 
-emptied : (c : Code) (k : ℕ) (s : Thread) → Aim c 0 k s → s .promises ≡ 0
-emptied c k s (inl p) = p .1
-emptied c k s (inr (x, g, f)) = let z = f .early in absurd (omega arith)
+emptied : (c : Code) (i k : ℕ) (m : Memory) (s : Thread) → Aim c i 0 k m s → s .promises ≡ 0
+emptied c i k m s (inl p) = p .1
+emptied c i k m s (inr (x, g, f)) = let z = has-positive (s .promises) 0 (fills-out f) in absurd (omega arith)
 
 pub found-certified : (c : Code) (i : ℕ) (m : Memory) (s : Thread) (r : ℕ) → Least 0 1 (Meets c i m s 0) r → eqb r 0 ≡ certified c i m s
 found-certified c i m s r l = go (decLt r 1)
@@ -176,10 +218,10 @@ found-certified c i m s r l = go (decLt r 1)
     go : Dec (r < 1) → eqb r 0 ≡ certified c i m s
     go (yes h) =
         let zero : r ≡ 0 = omega arith in
-        is-true (eqb r 0) (eq→eqb zero) ∙ sym (is-true (certified c i m s) (certified-iff c i m s .1 (comes-as (emptied c r) (l .better .hit h .1))))
+        is-true (eqb r 0) (eq→eqb zero) ∙ sym (is-true (certified c i m s) (certified-iff c i m s .1 (comes-as (emptied c i r) (l .better .hit h .1))))
     go (no h) =
         is-false (eqb r 0) (λ z. let e = eqb→eq r 0 z in omega arith)
-        ∙ sym (is-false (certified c i m s) (λ z. l .least 0 (omega arith) (omega arith) (comes-as (λ u e. inl (refl, e)) (certified-iff c i m s .0 z))))
+        ∙ sym (is-false (certified c i m s) (λ z. l .least 0 (omega arith) (omega arith) (comes-as (λ m u e. inl (refl, e)) (certified-iff c i m s .0 z))))
 
 -- ---- one state
 module _ (c : Code) (i : ℕ) (m : Memory) (s : Thread) (q : Sought) (now : ℕ) (kept : Least (q .from) (q .best) (λ k. (q .hole ≡ 0) × (s .promises ≡ 0)) now) where
@@ -203,8 +245,16 @@ module _ (c : Code) (i : ℕ) (m : Memory) (s : Thread) (q : Sought) (now : ℕ)
       ended k a b (by x t s' g tl e r) = past x g
       ended k a b (own x w s' g gw room e r) = past x g
 
+  -- too few stores are left
+  pub reach-crowded : (b : Bool) → b ≡ ltb (storesFrom c (s .position)) (ones (s .promises)) → b ≡ true → Least (q .from) (q .best) (Meets c i m s (q .hole)) now
+  reach-crowded b e t =
+      record {
+        better = kept-meets;
+        least = λ k l h r. let f = comes-fit (aim-fits c i (q .hole) k) r in let z = crowds (storesFrom c (s .position)) (ones (s .promises)) b e t in omega arith;
+      }
+
   -- ---- its instruction x
-  module _ (x : Instr) (is-next : instrAt c (s .position) ≡ some x) (here : ℕ) (fills : Least (q .from) now (λ k. Fills c x (q .hole) k s) here) where
+  module _ (x : Instr) (is-next : instrAt c (s .position) ≡ some x) (here : ℕ) (fills : Least (q .from) now (λ k. Fills c i x (q .hole) k m s) here) where
     same-next : (y : Instr) → instrAt c (s .position) ≡ some y → x ≡ y
     same-next y g = some-same x y (sym is-next ∙ g)
 
@@ -235,7 +285,7 @@ module _ (c : Code) (i : ℕ) (m : Memory) (s : Thread) (q : Sought) (now : ℕ)
         least k a b (done (inr (y, g, w))) =
             let l2 = found .low in
             let l = late k b in
-            fills .least k a (omega arith) (subst (λ (z : Instr). Fills c z (q .hole) k s) (sym (same-next y g)) w)
+            fills .least k a (omega arith) (subst (λ (z : Instr). Fills c i z (q .hole) k m s) (sym (same-next y g)) w)
         least k a b (by y u s' g tl e w) =
             let e' = subst (λ (z : Instr). execute z m u s ≡ next s') (sym (same-next y g)) e in
             missed .failed u s' (omega arith) e' k a (late k b) w
@@ -335,7 +385,7 @@ module _ (c : Code) (i : ℕ) (m : Memory) (s : Thread) (x : Instr) (q : Sought)
   -- too few stores are left after it
   pub owns-crowded : (n : ℕ) → n ≡ s .position + 1 → (b : Bool) → b ≡ ltb (storesFrom c n) (ones (s .promises)) → b ≡ true → Least (q .from) (q .best) (Owns c i m s x (q .hole)) (q .best)
   owns-crowded n ne b be bt = least-none (q .from) (q .best) (Owns c i m s x (q .hole)) (λ j l h w.
-      let f = comes-fit (aim-fits c (q .hole) j) (w .goes-on) in
+      let f = comes-fit (aim-fits c i (q .hole) j) (w .goes-on) in
       let does = effect x (append m (w .message)) ((append m (w .message)) .count) (addPromise (append m (w .message)) s) (w .after) (w .does) in
       let p = ap ones (own-leaves (own-effect i m (w .message) s (w .is-own) does)) in
       let k = moves does in

@@ -1,12 +1,12 @@
 -- What the code of the tries relies on, on plain values.
 -- Assumes nothing.
 use mathlib.Core.Path.{_≡_, sym, _∙_, subst, subst₂}
-use mathlib.Core.Bool.{Bool, true}
+use mathlib.Core.Bool.{Bool, true, false}
 use Prim.Native.Nat.{ℕ, _+_, _≤_, _<_}
 use native.Mathlib.Omega.{arith}
 use lib.Dec.{T}
 use Rattle.source.proofs.Counts.{there}
-use Rattle.live.specs.Live.{locates, weighs, Live}
+use Rattle.live.specs.Live.{Live}
 use Rattle.machine.specs.Rules.{valueOf, address, readable, readValue, readView}
 use Rattle.certify.specs.Below.{Code, Operand, LoadMode, Instr, Load, Memory, Thread}
 use Rattle.certify.specs.Answers.{Trying}
@@ -50,15 +50,15 @@ module _ (c : Code) (s : Thread) (x : Instr) where
   grain-other = record { value = λ k r a b is live. omega arith; place = λ k r a b is live. omega arith }
 
   module _ (k : LoadMode) (r : ℕ) (a b : Operand) (is : x ≡ Load k r a b) where
-    pub grain-load : (g n : ℕ) → n ≡ s .position + 1 → (Live weighs c r n → 2 ≤ g) → (Live locates c r n → 1 ≤ g) → Grain c s x g
+    pub grain-load : (g n : ℕ) → n ≡ s .position + 1 → (Live c true r n → 2 ≤ g) → (Live c false r n → 1 ≤ g) → Grain c s x g
     grain-load g n e value place =
         record {
           value = λ k' r' a' b' is' live. value (at r' (load-same _ _ _ _ _ _ _ _ (sym is' ∙ is)) live);
           place = λ k' r' a' b' is' live. place (at r' (load-same _ _ _ _ _ _ _ _ (sym is' ∙ is)) live);
         }
       where
-        at : {reads : ℕ → Instr → Bool} (r' : ℕ) → r' ≡ r → Live reads c r' (s .position + 1) → Live reads c r n
-        at {reads} r' q live = subst₂ (Live reads c) q (sym e) live
+        at : {v : Bool} (r' : ℕ) → r' ≡ r → Live c v r' (s .position + 1) → Live c v r n
+        at {v} r' q live = subst₂ (Live c v) q (sym e) live
 
 -- the position after the instruction is within the code
 pub next-within : (c : Code) (m : Memory) (s : Thread) (x : Instr) → Trying c m s x → s .position + 1 ≤ 16

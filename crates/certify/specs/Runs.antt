@@ -10,9 +10,9 @@ use Rattle.certify.specs.Below.{Code, Instr, Message, Memory, Thread}
 use Rattle.certify.specs.Certify.{messageOf}
 
 -- thread i with code c, alone on a memory, by executing instructions, comes to a state with the Goal; Room says on which memories a store may append
-pub data Comes (Goal : Thread → Type 0) (Room : Memory → Type 0) (c : Code) (i : ℕ) : Memory → Thread → Type 0 where
+pub data Comes (Goal : Memory → Thread → Type 0) (Room : Memory → Type 0) (c : Code) (i : ℕ) : Memory → Thread → Type 0 where
   -- now
-  done : {m : Memory} {s : Thread} → Goal s → Comes Goal Room c i m s
+  done : {m : Memory} {s : Thread} → Goal m s → Comes Goal Room c i m s
   -- or after an instruction, executed at a time of the memory
   by : {m : Memory} {s : Thread} (x : Instr) (t : ℕ) (s' : Thread) → instrAt c (s .position) ≡ some x → t ≤ m .count
       → execute x m t s ≡ next s' → Comes Goal Room c i m s' → Comes Goal Room c i m s
@@ -22,7 +22,7 @@ pub data Comes (Goal : Thread → Type 0) (Room : Memory → Type 0) (c : Code) 
 
 -- it comes to an empty promise set
 abbrev pub Run : (Memory → Type 0) → Code → ℕ → Memory → Thread → Type 0
-Run = Comes (λ s. s .promises ≡ 0)
+Run = Comes (λ m s. s .promises ≡ 0)
 
 -- fewer than 16 messages stand
 abbrev pub Fewer : Memory → Type 0

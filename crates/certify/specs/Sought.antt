@@ -4,35 +4,34 @@ use mathlib.Core.Path.{_≡_}
 use mathlib.Core.Logic.{_⊎_}
 use mathlib.Core.Bool.{Bool, true, false}
 use mathlib.Core.Option.{some}
-use Prim.Native.Nat.{ℕ, _+_, _*_, _≤_, _<_}
-use lib.Count.{ones}
-use Rattle.views.specs.Views.{viewAt}
+use Prim.Native.Nat.{ℕ, _+_, _-_, _*_, _≤_, _<_}
+use lib.Dec.{T}
+use lib.ListN.{set}
 use Rattle.source.specs.Program.{instrAt}
-use Rattle.source.specs.Counts.{storesFrom}
 use Rattle.machine.specs.State.{append}
-use Rattle.machine.specs.Rules.{next, valueOf, viewOf, address, storePre, execute, addPromise}
-use Rattle.certify.specs.Below.{Code, Operand, StoreMode, Instr, Compute, Load, Store, Branch, Fence, Message, Memory, Thread}
-use Rattle.certify.specs.Certify.{messageOf}
+use Rattle.machine.specs.Rules.{next, execute, addPromise}
+use Rattle.certify.specs.Below.{Code, Instr, Compute, Load, Store, Branch, Fence, Message, Memory, Thread}
+use Rattle.certify.specs.Certify.{messageOf, onward, certified}
 use Rattle.certify.specs.Answers.{Ready}
 use Rattle.certify.specs.Runs.{Comes, Fewer}
 use Rattle.certify.specs.Tries.{Grain}
 pub use Rattle.certify.specs.declared.Sought.{Sought}
 pub use Rattle.certify.specs.declared.reach.Tried.{Tried}
 
--- the instruction is a store that could fulfil a promise at time h, of location l and value v with 256 · l + v = k, and stores enough are left for all promises
-pub record Fills (c : Code) (x : Instr) (h k : ℕ) (s : Thread) : Type 0 where
-  pub mode : StoreMode
-  pub a : Operand
-  pub d : Operand
-  pub is-store : x ≡ Store mode a d
-  pub number : 256 * address (valueOf s a) + valueOf s d ≡ k
-  pub early : storePre mode (viewOf s a) (viewOf s d) (s .views) < h
-  pub coherent : viewAt (s .coherence) (address (valueOf s a)) < h
-  pub enough : ones (s .promises) ≤ storesFrom c (s .position)
+-- the memory with w in place of the message at time h
+abbrev pub fill : Memory → ℕ → Message → Memory
+fill m h w = record { count = m .count; messages = set (m .messages) (h - 1) w }
 
--- what is sought: without a hole, which is at time 0, an empty promise set; with one, a store that could fill it as number k
-abbrev pub Aim : Code → ℕ → ℕ → Thread → Type 0
-Aim c h k s = ((h ≡ 0) × (s .promises ≡ 0)) ⊎ ((x : Instr) × (instrAt c (s .position) ≡ some x) × Fills c x h k s)
+-- the instruction is a store of location l and value v with 256 · l + v = k; with its message in the hole, which is at time h, it fulfils the promise there, and the thread is then certified
+pub record Fills (c : Code) (i : ℕ) (x : Instr) (h k : ℕ) (m : Memory) (s : Thread) : Type 0 where
+  pub message : Message
+  pub is-own : messageOf i s x ≡ some message
+  pub number : 256 * message .location + message .value ≡ k
+  pub keeps : T (onward (certified c i (fill m h message)) (execute x (fill m h message) h s))
+
+-- what is sought: without a hole, which is at time 0, an empty promise set; with one, a store that fills it as number k
+abbrev pub Aim : Code → ℕ → ℕ → ℕ → Memory → Thread → Type 0
+Aim c i h k m s = ((h ≡ 0) × (s .promises ≡ 0)) ⊎ ((x : Instr) × (instrAt c (s .position) ≡ some x) × Fills c i x h k m s)
 
 -- r is below best only if it passes and is not below `from`
 pub record Better (from best : ℕ) (P : ℕ → Type 0) (r : ℕ) : Type 0 where
@@ -46,7 +45,7 @@ pub record Least (from best : ℕ) (P : ℕ → Type 0) (r : ℕ) : Type 0 where
 
 -- the thread alone comes to what is sought, by the number k
 abbrev pub Meets : Code → ℕ → Memory → Thread → ℕ → ℕ → Type 0
-Meets c i m s h k = Comes (Aim c h k) Fewer c i m s
+Meets c i m s h k = Comes (Aim c i h k) Fewer c i m s
 
 -- the instruction is neither load nor store
 unfoldable pub isPlain : Instr → Bool

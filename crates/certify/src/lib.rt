@@ -26,8 +26,8 @@ pub enum Certified {
     Refused(u8),
 }
 
-// What runs are searched for: where hole is 0, an empty promise set; else a store that could fulfil a promise at that time. Sought are
-// numbers from `from` on and below best.
+// What runs are searched for: where hole is 0, an empty promise set; else a store that fills the hole at that time. Sought are numbers
+// from `from` on and below best.
 pub struct Sought {
     pub hole: u8,
     pub from: u16,
@@ -35,6 +35,17 @@ pub struct Sought {
 }
 
 impl Sought {
+    // An empty promise set: one number is enough.
+    pub fn certified() -> Sought
+        ensures { λ r. ⌜ r ≡ record { hole = 0; from = 0; best = 1 } ⌝ }
+    {
+        Sought {
+            hole: 0,
+            from: 0,
+            best: 1,
+        }
+    }
+
     // The same, below another number.
     pub fn below(self, best: u16) -> Sought
         ensures { λ r. ⌜ r ≡ record { hole = self .hole; from = self .from; best = best } ⌝ }
@@ -58,15 +69,10 @@ fn own_message(i: u8, a: Operand, d: Operand, s: Thread) -> Message
     }
 }
 
-// Whether thread i is certified. Without a hole one number is enough.
+// Whether thread i is certified.
 pub fn is_certified(c: Code, i: u8, m: Memory, s: Thread) -> bool
     requires { ⌜ Ready c m s ⌝ }
     ensures { λ r. ⌜ r ≡ certified c i m s ⌝ }
 {
-    let q = Sought {
-        hole: 0,
-        from: 0,
-        best: 1,
-    };
-    least_reached(c, i, m, s, q) == 0
+    least_reached(c, i, m, s, Sought::certified()) == 0
 }

@@ -1,14 +1,15 @@
 // What the runs of a thread alone come to: one search of them, times ascending, for all that asks.
 ghost use mathlib.Core.Path.{_≡_};
-ghost use Prim.Native.Nat.{_+_, _≤_};
+ghost use Prim.Native.Nat.{_+_, _≤_, _<_};
 ghost use lib.Count.{ones};
 ghost use lib.Dec.{ltb};
 ghost use Rattle.source.specs.Counts.{storesFrom};
 ghost use Rattle.source.proofs.Formed.{CodeOk};
 ghost use Rattle.machine.specs.Rules.{next, execute};
+ghost use Rattle.certify.specs.Certify.{onward, certified};
 ghost use Rattle.certify.specs.Answers.{Ready, Trying};
 ghost use Rattle.certify.specs.Tries.{Grain};
-ghost use Rattle.certify.specs.Sought.{Fills, Least, Meets, Owns, Missed, Went};
+ghost use Rattle.certify.specs.Sought.{fill, Fills, Least, Meets, Owns, Missed, Went};
 use crate::Sought;
 use crate::own_message;
 use crate::straight::straight;
@@ -18,17 +19,15 @@ use crate::window::earliest;
 use crate::window::following;
 use live::fewer_stores;
 use machine::Memory;
+use machine::Message;
 use machine::RuleAnswer;
 use machine::Thread;
+use machine::promises::has;
 use machine::promises::is_empty;
 use rules::execute;
-use rules::operands::address;
-use rules::operands::value_of;
-use rules::operands::view_of;
 use rules::own_store;
 use source::Code;
 use source::Instr;
-use stores::store_pre;
 
 // After some tries of an instruction: the least number met; the first time at which the instruction executed, or 255; how much of what a
 // load leaves in its register matters, or 3 where nobody has asked.
@@ -75,33 +74,13 @@ fn kept(s: Thread, q: Sought) -> u16
     q.best
 }
 
-// The number of a store that could fill the hole, if there is one: no view is below time 0.
-fn filled(c: Code, x: Instr, s: Thread, q: Sought) -> u16
-    requires { ⌜ c .count ≤ 16 ⌝ }
-    ensures { λ r. ⌜ Least (q .from) (q .best) (λ k. Fills c x (q .hole) k s) r ⌝ }
+// The memory with w in place of the message at time h.
+fn fill(mut m: Memory, h: u8, w: Message) -> Memory
+    requires { ⌜ (0 < h) × (h ≤ 16) ⌝ }
+    ensures { λ r. ⌜ r ≡ fill m h w ⌝ }
 {
-    if q.hole == 0 {
-        return q.best;
-    }
-    match x {
-        Instr::Store(k, a, d) => {
-            if q.hole <= store_pre(k, view_of(s, a), view_of(s, d), s.views) {
-                return q.best;
-            }
-            if crowded(c, s.position, s) {
-                return q.best;
-            }
-            let l = address(value_of(s, a));
-            if q.hole <= s.coherence_at(l) {
-                return q.best;
-            }
-            lowered(256 * l as u16 + value_of(s, d) as u16, q)
-        }
-        Instr::Load(_, _, _, _) => q.best,
-        Instr::Compute(_, _, _, _) => q.best,
-        Instr::Branch(_, _, _) => q.best,
-        Instr::Fence(_) => q.best,
-    }
+    m.messages[(h - 1) as usize] = w;
+    m
 }
 
 // What is known of the grain, or the grain.
@@ -128,8 +107,11 @@ pub fn least_reached(c: Code, i: u8, m: Memory, s: Thread, q: Sought) -> u16
     if c.count <= y.position {
         return now;
     }
+    if crowded(c, y.position, y) {
+        return now;
+    }
     let x = c.instr_at(y.position);
-    let here = filled(c, x, y, q.below(now));
+    let here = filled(c, i, m, y, x, q.below(now));
     let mut t = earliest(x, m, y);
     let mut r = Tried {
         best: here,
@@ -144,6 +126,51 @@ pub fn least_reached(c: Code, i: u8, m: Memory, s: Thread, q: Sought) -> u16
         t = following(x, m, y, t);
     }
     own_reached(c, i, m, y, x, q.below(r.best))
+}
+
+// The number of a store that fills the hole, if there is one and it is sought.
+fn filled(c: Code, i: u8, m: Memory, s: Thread, x: Instr, q: Sought) -> u16
+    requires { ⌜ Trying c m s x ⌝ }
+    ensures { λ r. ⌜ Least (q .from) (q .best) (λ k. Fills c i x (q .hole) k m s) r ⌝ }
+{
+    if !has(s.promises, q.hole) {
+        return q.best;
+    }
+    match x {
+        Instr::Store(_, a, d) => {
+            let w = own_message(i, a, d, s);
+            let number = lowered(256 * w.location as u16 + w.value as u16, q);
+            if q.best <= number {
+                return q.best;
+            }
+            if keeps(c, i, fill(m, q.hole, w), s, x, q.hole) {
+                number
+            } else {
+                q.best
+            }
+        }
+        Instr::Load(_, _, _, _) => q.best,
+        Instr::Compute(_, _, _, _) => q.best,
+        Instr::Branch(_, _, _) => q.best,
+        Instr::Fence(_) => q.best,
+    }
+}
+
+// The instruction can be executed at time t, and the thread is then certified.
+fn keeps(c: Code, i: u8, m: Memory, s: Thread, x: Instr, t: u8) -> bool
+    requires { ⌜ Trying c m s x ⌝ }
+    ensures { λ r. ⌜ r ≡ onward (certified c i m) (execute x m t s) ⌝ }
+{
+    let r = execute(x, m, t, s);
+    let a = r.answer;
+    let RuleAnswer::Done = a else {
+        return false;
+    };
+    let y = r.thread;
+    if is_empty(y.promises) {
+        return true;
+    }
+    least_reached(c, i, m, y, Sought::certified()) == 0
 }
 
 // The instruction is executed at time t, and the thread goes on from there. The tries before t have come to nothing, and have left p.

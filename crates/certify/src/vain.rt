@@ -24,10 +24,10 @@ pub fn grain(c: Code, s: Thread, x: Instr) -> u8
     match x {
         Instr::Load(_, r, _, _) => {
             let n = s.position + 1;
-            if !idle(true, c, r, n) {
+            if !idle(1, c, r, n) {
                 return 2;
             }
-            if !idle(false, c, r, n) {
+            if !idle(2, c, r, n) {
                 return 1;
             }
             0

@@ -1,7 +1,7 @@
 -- Exploration leaves out nothing: a promise after which the thread is certified is one that the exploration reaches, with a hole in its place that can be neither read nor fulfilled.
 -- Assumes nothing.
 use mathlib.Core.Path.{_≡_, refl, sym, ap, ap₂, _∙_, subst}
-use mathlib.Core.Logic.{inr, ⊎-elim, _≢_}
+use mathlib.Core.Logic.{_⊎_, inl, inr, ⊎-elim, _≢_}
 use mathlib.Core.Bool.{Bool, not, cond, _&&_, _||_}
 use mathlib.Core.Option.{some}
 use Prim.Native.Nat.{ℕ, zero, suc, _+_, _*_, _-_, _≤_, _<_}
@@ -10,25 +10,25 @@ use native.Mathlib.Decide.{ℕ-discrete}
 use native.Mathlib.Omega.{arith}
 use lib.Dec.{T, eqb, leb, ltb, eqb→eq, lit<}
 use lib.ListN.{length, getD, set, length-set}
+use lib.Seq.{getD-set-same, getD-set-other}
 use borrow.Author.Tests.{ne-eqb}
 use Rattle.views.specs.Views.{viewAt, raiseAt}
 use Rattle.views.proofs.Entries.{set-all, set-both}
 use Rattle.views.proofs.Merging.{length-raise, raise-reaches}
-use Rattle.source.specs.Counts.{storesFrom}
 use Rattle.source.proofs.Tests.{or-cases, and-right, below-at, below-all}
 use Rattle.machine.specs.State.{noMessage, messageAt, append, has, with, freshForward, withRegister, raiseCoherence, withViews, withPromises}
-use Rattle.machine.specs.Rules.{valueOf, viewOf₂, address, advance, newer, readable, noneNewer, readValue, readView, loadViews, addPromise}
+use Rattle.machine.specs.Rules.{next, valueOf, viewOf₂, address, advance, newer, readable, noneNewer, readValue, readView, loadViews, execute, addPromise}
 use Rattle.machine.proofs.Sets.{has-positive, has-none, has-without, has-with, with-without}
 use Rattle.machine.proofs.Memories.{message-stays, message-new}
 use Rattle.machine.proofs.Effects.{loadLocation, loadPostView, Promised, Effect, computed, loaded, stored, branched, fenced, effect}
 use Rattle.certify.specs.Below.{Code, Operand, LoadMode, Instr, Compute, Load, Store, Branch, Fence, Message, Memory, Forward, Thread}
 use Rattle.certify.specs.Certify.{messageOf, certified}
 use Rattle.certify.specs.Runs.{done, by, own, Certifying}
-use Rattle.certify.specs.Sought.{Fills, Meets}
+use Rattle.certify.specs.Sought.{fill, Fills, Meets}
 use Rattle.explore.specs.Explored.{hole, Reached}
-use Rattle.certify.proofs.Iff.{certified-iff}
-use Rattle.certify.proofs.Fit.{outstanding, Owned, owned, own-effect, fits}
-use Rattle.certify.proofs.Dead.{Dead, dead-ends}
+use Rattle.certify.proofs.Iff.{onward-next, certified-iff}
+use Rattle.certify.proofs.Fit.{Owned, owned, own-effect}
+use Rattle.certify.proofs.Dead.{dead-ends}
 use Rattle.certify.proofs.Law.{read-view, Sound}
 use Rattle.certify.proofs.Executes.{executes}
 
@@ -37,12 +37,12 @@ use Rattle.certify.proofs.Executes.{executes}
 abbrev Twin : Message → Message → Type 0
 Twin x y = (x .location ≡ y .location) × (x .value ≡ y .value)
 
--- as many messages, each the twin of the other but at time h
+-- as many messages, each the twin of the other but at time h; after the last there is no such time
 record Same (h : ℕ) (m m' : Memory) : Type 0 where
   same-count : m .count ≡ m' .count
   long : length (m .messages) ≡ length (m' .messages)
   at : (k : ℕ) → suc k ≢ h → Twin (getD (m .messages) k noMessage) (getD (m' .messages) k noMessage)
-  nowhere : (messageAt m' h) .location ≡ 16
+  nowhere : h ≤ m' .count → (messageAt m' h) .location ≡ 16
 
 module _ (h : ℕ) (m m' : Memory) (q : Same h m m') where
   -- at another time the messages are the same
@@ -64,13 +64,13 @@ module _ (h : ℕ) (m m' : Memory) (q : Same h m m') where
   -- where no message is newer none is: the one at no location is not
   newer-same : (l t v : ℕ) → l < 16 → T (noneNewer m l t v) → T (noneNewer m' l t v)
   unfolding noneNewer
-  newer-same l t v low r = below-all _ (m' .count) (λ k kl. go k (ℕ-discrete (suc k) h) (below-at _ (m .count) r k (subst (λ (n : ℕ). k < n) (sym (q .same-count)) kl)))
+  newer-same l t v low r = below-all _ (m' .count) (λ k kl. go k kl (ℕ-discrete (suc k) h) (below-at _ (m .count) r k (subst (λ (n : ℕ). k < n) (sym (q .same-count)) kl)))
     where
-      go : (k : ℕ) → Dec (suc k ≡ h) → T (not (newer m l t v (suc k))) → T (not (newer m' l t v (suc k)))
-      go k (yes e) z =
-          let far : (messageAt m' (suc k)) .location ≡ 16 = ap (λ (n : ℕ). (messageAt m' n) .location) e ∙ q .nowhere in
+      go : (k : ℕ) → k < m' .count → Dec (suc k ≡ h) → T (not (newer m l t v (suc k))) → T (not (newer m' l t v (suc k)))
+      go k kl (yes e) z =
+          let far : (messageAt m' (suc k)) .location ≡ 16 = ap (λ (n : ℕ). (messageAt m' n) .location) e ∙ q .nowhere (omega arith) in
           subst (λ (b : Bool). T (not (b && ltb t (suc k) && leb (suc k) v))) (sym (ne-eqb _ l (λ p. omega arith))) tt
-      go k (no n) z = subst (λ (j : ℕ). T (not (eqb j l && ltb t (suc k) && leb (suc k) v))) (elsewhere (suc k) (omega arith) n .0) z
+      go k kl (no n) z = subst (λ (j : ℕ). T (not (eqb j l && ltb t (suc k) && leb (suc k) v))) (elsewhere (suc k) (omega arith) n .0) z
 
   -- what is promised at another time is promised there
   promised-same : (t l v : ℕ) (s : Thread) → t ≢ h → Promised m t l v s → Promised m' t l v s
@@ -95,19 +95,75 @@ module _ (h : ℕ) (m m' : Memory) (q : Same h m m') where
   carry n (branched e) = branched e
   carry n (fenced e) = fenced e
 
--- messages of one location and value are appended to both, after time h
-same-append : (h : ℕ) (m m' : Memory) (w w' : Message) → Same h m m' → 0 < h → h ≤ m .count → Twin w w' → Same h (append m w) (append m' w')
-same-append h m m' w w' q pos low e =
+-- messages of one location and value are appended to both, at another time than h
+same-append : (h : ℕ) (m m' : Memory) (w w' : Message) → Same h m m' → 0 < h → (h ≤ m .count) ⊎ (m .count + 1 < h) → Twin w w' → Same h (append m w) (append m' w')
+same-append h m m' w w' q pos other e =
+    let count = q .same-count in
     record {
       same-count = ap (λ (n : ℕ). n + 1) (q .same-count);
       long = length-set (m .messages) (m .count) w ∙ q .long ∙ sym (length-set (m' .messages) (m' .count) w');
       at = subst (λ (n : ℕ). (k : ℕ) → suc k ≢ h → Twin (getD (set (m .messages) (m .count) w) k noMessage) (getD (set (m' .messages) n w') k noMessage)) (q .same-count)
           (set-both (λ k x y. suc k ≢ h → Twin x y) noMessage w w' (m .messages) (m' .messages) (m .count) (q .long) (λ k n. q .at k) (λ n. (refl, refl)) (λ n. e));
-      nowhere = ap (λ (z : Message). z .location) (message-stays m' w' h pos (subst (λ (n : ℕ). h ≤ n) (q .same-count) low)) ∙ q .nowhere;
+      nowhere = λ l. ⊎-elim
+          (λ low. let low' : h ≤ m' .count = omega arith in ap (λ (z : Message). z .location) (message-stays m' w' h pos low') ∙ q .nowhere low')
+          (λ high. absurd (omega arith)) other;
     }
+
+-- with a message in the hole all are twins
+same-filled : (h : ℕ) (m m' : Memory) (w : Message) → Same h m m' → 0 < h → h ≤ m .count → m .count ≤ 16 → length (m .messages) ≡ 16 → Twin (messageAt m h) w → Same 17 m (fill m' h w)
+same-filled h m m' w q pos low room places e =
+    let count = q .same-count in
+    let long' : length (m' .messages) ≡ 16 = sym (q .long) ∙ places in
+    record {
+      same-count = q .same-count;
+      long = q .long ∙ sym (length-set (m' .messages) (h - 1) w);
+      at = λ k n. go k (ℕ-discrete k (h - 1)) (omega arith);
+      nowhere = λ l. absurd (omega arith);
+    }
+  where
+    go : (k : ℕ) → Dec (k ≡ h - 1) → h - 1 < length (m' .messages) → Twin (getD (m .messages) k noMessage) (getD (set (m' .messages) (h - 1) w) k noMessage)
+    go k (yes f) l =
+        subst (λ (j : ℕ). Twin (getD (m .messages) j noMessage) (getD (set (m' .messages) (h - 1) w) j noMessage)) (sym f)
+        (subst (Twin (getD (m .messages) (h - 1) noMessage)) (sym (getD-set-same (m' .messages) (h - 1) w noMessage l)) e)
+    go k (no f) l =
+        subst (Twin (getD (m .messages) k noMessage)) (sym (getD-set-other (m' .messages) (h - 1) k w noMessage f)) (q .at k (λ z. f (omega arith)))
+
+-- the message of a store, of one thread and of another
+own-other : (i j : ℕ) (s : Thread) (x : Instr) (w : Message) → messageOf i s x ≡ some w → (w' : Message) × (messageOf j s x ≡ some w') × Twin w w'
+own-other i j s (Compute k r a b) w e = absurd (let z : _≡_ {A = ℕ} 0 1 = cc in omega arith)
+own-other i j s (Load k r a b) w e = absurd (let z : _≡_ {A = ℕ} 0 1 = cc in omega arith)
+own-other i j s (Store k a d) w e =
+    let q : record { location = address (valueOf s a); value = valueOf s d; thread = i } ≡ w = cc in
+    (record { location = address (valueOf s a); value = valueOf s d; thread = j }, refl, (ap (λ (z : Message). z .location) (sym q), ap (λ (z : Message). z .value) (sym q)))
+own-other i j s (Branch n a b) w e = absurd (let z : _≡_ {A = ℕ} 0 1 = cc in omega arith)
+own-other i j s (Fence k) w e = absurd (let z : _≡_ {A = ℕ} 0 1 = cc in omega arith)
+
+-- what a store with its own message does on the one memory it does on the other, for whichever thread
+own-carried : {h : ℕ} {m m' : Memory} → Same h m m' → 0 < h → (h ≤ m .count) ⊎ (m .count + 1 < h) → (i j : ℕ) (s : Thread) (x : Instr) (w : Message) → messageOf i s x ≡ some w
+    → {s' : Thread} → Effect (append m w) ((append m w) .count) (addPromise (append m w) s) x s'
+    → (w' : Message) × (messageOf j s x ≡ some w') × Same h (append m w) (append m' w') × (execute x (append m' w') ((append m' w') .count) (addPromise (append m' w') s) ≡ next s')
+own-carried {h} {m} {m'} q pos other i j s x w gw {s'} f =
+    let o = own-other i j s x w gw in
+    let w' = o .0 in
+    let q' = same-append h m m' w w' q pos other (o .2) in
+    let apart : m .count + 1 ≢ h = λ z. ⊎-elim (λ low. omega arith) (λ high. omega arith) other in
+    let f' = carry h (append m w) (append m' w') q' apart f in
+    (w', o .1, q', executes (subst (λ (n : ℕ). Effect (append m' w') (n + 1) (withPromises (with (s .promises) (n + 1)) s) x s') (q .same-count) f'))
+
+-- WHO STORED IS NEVER READ: on memories whose messages are twins a thread has the same certifying runs
+same-run : {c : Code} {i : ℕ} (j : ℕ) {m m' : Memory} {s : Thread} → Same 17 m m' → m .count ≤ 16 → Certifying c i m s → Certifying c j m' s
+same-run j q room (done e) = done e
+same-run j {m} {m'} {s} q room (by x t s' g tl e r) =
+    by x t s' g (subst (λ (c : ℕ). t ≤ c) (q .same-count) tl) (executes (carry 17 m m' q (λ z. omega arith) (effect x m t s s' e))) (same-run j q room r)
+same-run {c} {i} j {m} {m'} {s} q room (own x w s' g gw few e r) =
+    let far : (17 ≤ m .count) ⊎ (m .count + 1 < 17) = inr (omega arith) in
+    let o = own-carried q (lit< tt) far i j s x w gw (effect x (append m w) ((append m w) .count) (addPromise (append m w) s) s' e) in
+    own x (o .0) s' g (o .1) (subst (λ (n : ℕ). n < 16) (q .same-count) few) (o .3) (same-run j (o .2) (omega arith) r)
 
 -- ---- the promise at time h, of number k, is outstanding, and is no forward time
 record Open (h k : ℕ) (m : Memory) (s : Thread) : Type 0 where
+  places : length (m .messages) ≡ 16
+  room : m .count ≤ 16
   in-memory : h ≤ m .count
   out : T (has (s .promises) h)
   number : 256 * (messageAt m h) .location + (messageAt m h) .value ≡ k
@@ -117,7 +173,7 @@ record Open (h k : ℕ) (m : Memory) (s : Thread) : Type 0 where
 module _ (h k : ℕ) (m : Memory) (s : Thread) (d : Open h k m s) where
   -- it is so for another thread on the memory, by what is said of that thread
   kept : (s' : Thread) → T (has (s' .promises) h) → length (s' .coherence) ≡ 16 → ((l : ℕ) → (getD (s' .forward) l freshForward) .time ≢ h) → Open h k m s'
-  kept s' p c n = record { in-memory = d .in-memory; out = p; number = d .number; locations = c; no-forward = n }
+  kept s' p c n = record { places = d .places; room = d .room; in-memory = d .in-memory; out = p; number = d .number; locations = c; no-forward = n }
 
   -- no promise is at time 0
   positive : 0 < h
@@ -134,10 +190,12 @@ module _ (h k : ℕ) (m : Memory) (s : Thread) (d : Open h k m s) where
   open-after n (fenced e) = kept _ (d .out) (d .locations) (d .no-forward)
 
   -- and so does a store with its own message
-  open-own : {i : ℕ} {w : Message} {x : Instr} {s' : Thread} → Owned i m w s x s' → Open h k (append m w) s'
-  open-own {i} {w} (owned e) =
+  open-own : {i : ℕ} {w : Message} {x : Instr} {s' : Thread} → m .count < 16 → Owned i m w s x s' → Open h k (append m w) s'
+  open-own {i} {w} few (owned e) =
       let low : h ≤ m .count = d .in-memory in
       record {
+        places = length-set (m .messages) (m .count) w ∙ d .places;
+        room = omega arith;
         in-memory = omega arith;
         out = subst (λ (p : ℕ). T (has p h)) (sym (with-without (s .promises) (m .count + 1))) (d .out);
         number = ap (λ (z : Message). 256 * z .location + z .value) (message-stays m w h positive low) ∙ d .number;
@@ -163,33 +221,26 @@ module _ (h k : ℕ) (m : Memory) (s : Thread) (d : Open h k m s) where
       let up : h ≤ post = subst (λ (n : ℕ). n ≤ post) (read-view s here h (d .no-forward here)) (le-max-right _ (readView s here h)) in
       subst (λ (n : ℕ). h ≤ viewAt (raiseAt (s .coherence) here post) n) (sym at) (le-trans up (raise-reaches (s .coherence) here post in-range))
 
-  -- an instruction at time h fills it, or puts it out of reach
-  at-hole : (c : Code) → outstanding s ≤ storesFrom c (s .position) → {x : Instr} {s' : Thread} → Effect m h s x s' → (Dead h m s' → ⊥) → Fills c x h k s
-  at-hole c enough (computed e) alive = let p = positive in absurd (omega arith)
-  at-hole c enough (loaded {k = o} {r} {a} {b} rd n) alive = absurd (alive (record { in-memory = d .in-memory; out = d .out; high = read-high o a b (read-there _ rd) }))
-  at-hole c enough (stored {k = o} {a} {d = b} p pre low) alive =
+  -- an instruction at time h, after which the thread is certified, fills the hole on the other memory: one that reads the promise would put it out of reach
+  at-hole : {c : Code} {i : ℕ} {m' : Memory} → Same h m m' → {x : Instr} {s' : Thread} → Effect m h s x s' → Certifying c i m s' → Fills c 0 x h k m' s
+  at-hole q (computed e) r = let p = positive in absurd (omega arith)
+  at-hole q (loaded {k = o} {r = n} {a} {b} rd low) r = absurd (dead-ends (record { in-memory = d .in-memory; out = d .out; high = read-high o a b (read-there _ rd) }) r)
+  at-hole {c} {i} {m'} q {s' = s'} (stored {k = o} {a} {d = b} p pre low) r =
+      let w : Message = record { location = address (valueOf s a); value = valueOf s b; thread = 0 } in
+      let x = Store o a b in
+      let full = fill m' h w in
+      let room = d .room in
+      let q' = same-filled h m m' w q positive (d .in-memory) room (d .places) (p .at-location, p .at-value) in
+      let early = d .in-memory in
+      let f = carry 17 m full q' (λ z. omega arith) (stored {k = o} {a = a} {d = b} p pre low) in
       record {
-        mode = o;
-        a = a;
-        d = b;
-        is-store = refl;
+        message = w;
+        is-own = refl;
         number = ap₂ (λ (x y : ℕ). 256 * x + y) (sym (p .at-location)) (sym (p .at-value)) ∙ d .number;
-        early = pre;
-        coherent = low;
-        enough = enough;
+        keeps = onward-next (certified c 0 full) (execute x full h s) _ (executes f) (certified-iff c 0 full _ .1 (same-run 0 q' room r));
       }
-  at-hole c enough (branched e) alive = let p = positive in absurd (omega arith)
-  at-hole c enough (fenced e) alive = let p = positive in absurd (omega arith)
-
--- the message of a store, of one thread and of another
-own-other : (i j : ℕ) (s : Thread) (x : Instr) (w : Message) → messageOf i s x ≡ some w → (w' : Message) × (messageOf j s x ≡ some w') × Twin w w'
-own-other i j s (Compute k r a b) w e = absurd (let z : _≡_ {A = ℕ} 0 1 = cc in omega arith)
-own-other i j s (Load k r a b) w e = absurd (let z : _≡_ {A = ℕ} 0 1 = cc in omega arith)
-own-other i j s (Store k a d) w e =
-    let q : record { location = address (valueOf s a); value = valueOf s d; thread = i } ≡ w = cc in
-    (record { location = address (valueOf s a); value = valueOf s d; thread = j }, refl, (ap (λ (z : Message). z .location) (sym q), ap (λ (z : Message). z .value) (sym q)))
-own-other i j s (Branch n a b) w e = absurd (let z : _≡_ {A = ℕ} 0 1 = cc in omega arith)
-own-other i j s (Fence k) w e = absurd (let z : _≡_ {A = ℕ} 0 1 = cc in omega arith)
+  at-hole q (branched e) r = let p = positive in absurd (omega arith)
+  at-hole q (fenced e) r = let p = positive in absurd (omega arith)
 
 -- ---- along a run on m: the exploration follows it on m' up to the store that fulfils the promise
 explored-run : {c : Code} {i h k : ℕ} {m m' : Memory} {s : Thread} → Same h m m' → Open h k m s → Certifying c i m s → Meets c 0 m' s h k
@@ -197,19 +248,13 @@ explored-run {h = h} {s = s} q d (done e) = absurd (has-none (s .promises) h e (
 explored-run {c} {i} {h} {k} {m} {m'} {s} q d (by x t s' g tl e r) =
     let f = effect x m t s s' e in
     elim (ℕ-discrete t h) [
-      | yes p ↦ done (inr (x, g, at-hole h k m s d c (fits (by x t s' g tl e r)) (subst (λ (u : ℕ). Effect m u s x s') p f) (λ dead. dead-ends dead r)))
+      | yes p ↦ done (inr (x, g, at-hole h k m s d q (subst (λ (u : ℕ). Effect m u s x s') p f) r))
       | no n ↦ by x t s' g (subst (λ (c : ℕ). t ≤ c) (q .same-count) tl) (executes (carry h m m' q n f)) (explored-run q (open-after h k m s d n f) r)
     ]
 explored-run {c} {i} {h} {k} {m} {m'} {s} q d (own x w s' g gw few e r) =
     let f = effect x (append m w) ((append m w) .count) (addPromise (append m w) s) s' e in
-    let low : h ≤ m .count = d .in-memory in
-    let o = own-other i 0 s x w gw in
-    let w' = o .0 in
-    let q' = same-append h m m' w w' q (positive h k m s d) low (o .2) in
-    let f' = carry h (append m w) (append m' w') q' (λ z. omega (arith, low)) f in
-    own x w' s' g (o .1) (subst (λ (n : ℕ). n < 16) (q .same-count) few)
-    (executes (subst (λ (n : ℕ). Effect (append m' w') (n + 1) (withPromises (with (s .promises) (n + 1)) s) x s') (q .same-count) f'))
-    (explored-run q' (open-own h k m s d (own-effect i m w s gw f)) r)
+    let o = own-carried q (positive h k m s d) (inl (d .in-memory)) i 0 s x w gw f in
+    own x (o .0) s' g (o .1) (subst (λ (n : ℕ). n < 16) (q .same-count) few) (o .3) (explored-run (o .2) (open-own h k m s d few (own-effect i m w s gw f)) r)
 
 -- EXPLORATION LEAVES OUT NOTHING: a promise (l, v) after which the thread is certified is one that the exploration reaches
 pub explored-law : (c : Code) (i l v : ℕ) (m : Memory) (s : Thread) → Sound m s → m .count < 16
@@ -222,9 +267,11 @@ explored-law c i l v m s ok few h =
       long = length-set (m .messages) (m .count) y ∙ sym (length-set (m .messages) (m .count) hole);
       at = set-both (λ k a b. suc k ≢ m .count + 1 → Twin a b) noMessage y hole (m .messages) (m .messages) (m .count) refl (λ k n o. (refl, refl)) (λ o. (refl, refl))
           (λ o. absurd (o (omega arith)));
-      nowhere = ap (λ (z : Message). z .location) (newest hole);
+      nowhere = λ l. ap (λ (z : Message). z .location) (newest hole);
     })
     (record {
+      places = length-set (m .messages) (m .count) y ∙ ok .places;
+      room = omega arith;
       in-memory = omega arith;
       out = has-with (s .promises) (m .count) (ok .promises-in);
       number = ap (λ (z : Message). 256 * z .location + z .value) (newest y);

@@ -1,82 +1,19 @@
 // What lies ahead in a thread's code: whether what a register holds can still matter, and whether stores enough are left.
+mod marks;
+
 ghost use mathlib.Core.Path.{_≡_};
-ghost use mathlib.Core.Bool.{true};
+ghost use mathlib.Core.Bool.{true, false};
 ghost use Prim.Native.Nat.{_≤_};
 ghost use lib.Dec.{ltb};
 ghost use Rattle.source.specs.Counts.{storesFrom};
 ghost use Rattle.source.proofs.Formed.{CodeOk};
-ghost use Rattle.live.specs.Live.{isRegister, eitherRegister, locates, weighs, reads, writes, skips, Live};
+ghost use Rattle.live.specs.Live.{skips, Live};
+use crate::marks::marks_after;
+use crate::marks::unmarked;
+use crate::marks::wakes;
 use machine::merge::larger;
 use source::Code;
 use source::Instr;
-use source::Operand;
-
-// The operand is register k.
-fn is_register(k: u8, a: Operand) -> bool
-    ensures { λ r. ⌜ r ≡ isRegister k a ⌝ }
-{
-    match a {
-        Operand::Constant(_) => false,
-        Operand::OfRegister(r) => r == k,
-    }
-}
-
-fn either(k: u8, a: Operand, b: Operand) -> bool
-    ensures { λ r. ⌜ r ≡ eitherRegister k a b ⌝ }
-{
-    if is_register(k, a) {
-        return true;
-    }
-    is_register(k, b)
-}
-
-// It reads register k to find a location.
-fn locates(k: u8, x: Instr) -> bool
-    ensures { λ r. ⌜ r ≡ locates k x ⌝ }
-{
-    match x {
-        Instr::Compute(_, _, _, _) => false,
-        Instr::Load(_, _, a, b) => either(k, a, b),
-        Instr::Store(_, a, _) => is_register(k, a),
-        Instr::Branch(_, _, _) => false,
-        Instr::Fence(_) => false,
-    }
-}
-
-// It reads register k for the value itself.
-fn weighs(k: u8, x: Instr) -> bool
-    ensures { λ r. ⌜ r ≡ weighs k x ⌝ }
-{
-    match x {
-        Instr::Compute(_, _, a, b) => either(k, a, b),
-        Instr::Load(_, _, _, _) => false,
-        Instr::Store(_, _, d) => is_register(k, d),
-        Instr::Branch(n, a, b) => (n != 0) & either(k, a, b),
-        Instr::Fence(_) => false,
-    }
-}
-
-fn reads(value: bool, k: u8, x: Instr) -> bool
-    ensures { λ r. ⌜ r ≡ reads value k x ⌝ }
-{
-    if value {
-        return weighs(k, x);
-    }
-    locates(k, x)
-}
-
-// The instruction writes register k.
-fn writes(k: u8, x: Instr) -> bool
-    ensures { λ r. ⌜ r ≡ writes k x ⌝ }
-{
-    match x {
-        Instr::Compute(_, r, _, _) => r == k,
-        Instr::Load(_, r, _, _) => r == k,
-        Instr::Store(_, _, _) => false,
-        Instr::Branch(_, _, _) => false,
-        Instr::Fence(_) => false,
-    }
-}
 
 // How many instructions it may skip.
 fn skips(x: Instr) -> u8
@@ -91,21 +28,29 @@ fn skips(x: Instr) -> u8
     }
 }
 
-// No way on from the position `from` reads register k, for its value or for a location, before it is written. The positions are
-// looked at in order; up to `end` a branch may have skipped some.
-pub fn idle(value: bool, c: Code, k: u8, from: u8) -> bool
-    requires { ⌜ CodeOk c × (from ≤ 16) ⌝ }
-    ensures { λ r. ⌜ (r ≡ true → Live (reads value) c k from → ⊥) ⌝ }
+// No way on from the position `from` reads register k, for its value or, at level 2, for a location, before it is written, but
+// to compute what no way on reads. The positions are looked at in order, with a mark on what must not be live; up to `end` a
+// branch may have skipped some.
+pub fn idle(level: u8, c: Code, k: u8, from: u8) -> bool
+    requires { ⌜ CodeOk c × ((from ≤ 16) × (1 ≤ level)) ⌝ }
+    ensures { λ r. ⌜ (r ≡ true → (Live c true k from → ⊥) × (2 ≤ level → Live c false k from → ⊥)) ⌝ }
 {
+    if 8 <= k {
+        return false;
+    }
+    let mut marks = [0u8; 8];
+    marks[k as usize] = level;
     let mut n = from;
     let mut end = from;
     while n < c.count {
         let x = c.instr_at(n);
-        if reads(value, k, x) {
+        if wakes(marks, x) {
             return false;
         }
-        if end <= n {
-            if writes(k, x) {
+        let sure = end <= n;
+        marks = marks_after(sure, marks, x);
+        if sure {
+            if unmarked(marks) {
                 return true;
             }
         }

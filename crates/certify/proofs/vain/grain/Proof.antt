@@ -1,6 +1,7 @@
 -- `certify::vain::grain` meets its contract.
 -- Assumes nothing.
 use mathlib.Core.Path.{refl}
+use native.Mathlib.Nat.{le-refl}
 use native.Mathlib.Omega.{arith}
 use Rattle.machine.proofs.Cases.{was-true}
 use Rattle.certify.proofs.Tries.{grain-load}
@@ -24,7 +25,7 @@ idle-requires-2 : tie.Need-idle-requires-2
 idle-requires-2 c κs = search needs
 
 returns-2 : tie.Need-returns-2
-returns-2 c = grain-load _ _ _ _ _ _ _ (c .before .before .before .before .before .before .x .given .1) _ _ refl (λ live. absurd (c .before .before .before .idle .ensures (was-true refl (c .before .before .if1 .left)) live)) (λ live. omega arith)
+returns-2 c = grain-load _ _ _ _ _ _ _ (c .before .before .before .before .before .before .x .given .1) _ _ refl (λ live. absurd (c .before .before .before .idle .ensures (was-true refl (c .before .before .if1 .left)) .0 live)) (λ live. omega arith)
 
 enum-told : tie.Need-enum-told
 enum-told c = search needs
@@ -39,7 +40,7 @@ enum-told-4 : tie.Need-enum-told-4
 enum-told-4 c = search needs
 
 returns-3 : tie.Need-returns-3
-returns-3 c = grain-load _ _ _ _ _ _ _ (c .before .before .before .before .before .before .x .given .1) _ _ refl (λ live. absurd (c .before .before .before .idle .ensures (was-true refl (c .before .before .if1 .left)) live)) (λ live. absurd (c .before .idle2 .ensures (was-true refl (c .if2 .left)) live))
+returns-3 c = grain-load _ _ _ _ _ _ _ (c .before .before .before .before .before .before .x .given .1) _ _ refl (λ live. absurd (c .before .before .before .idle .ensures (was-true refl (c .before .before .if1 .left)) .0 live)) (λ live. absurd (c .before .idle2 .ensures (was-true refl (c .if2 .left)) .1 (le-refl 2) live))
 
 returns-4 : tie.Need-returns-4
 returns-4 c = search needs

@@ -12,36 +12,56 @@ use Rattle.certify.specs.Sought.{Better, Meets, Missed}
 use Rattle.certify.proofs.Trying.{ready-after, ready-own, reach-byte}
 use Rattle.certify.proofs.Tries.{grain-other, next-within}
 use Rattle.certify.proofs.Plain.{straight-least}
-use Rattle.certify.proofs.Reaching.{least-empty, reach-now, reach-end, reach-found, reach-all, missed-none, missed-next, better-on, better-same, went-refused, went-vain, went-on, owns-none, owns-full, owns-crowded, owns-stuck, owns-goes, further-by, further-own}
+use Rattle.certify.proofs.Reaching.{least-empty, fill-no-hole, fill-none, fill-unsought, fill-here, fill-fails, hole-time, trying-filled, keeps-refused, keeps-done, certified-empty, found-certified, reach-now, reach-end, reach-crowded, reach-found, reach-all, missed-none, missed-next, better-on, better-same, went-refused, went-vain, went-on, owns-none, owns-full, owns-crowded, owns-stuck, owns-goes, further-by, further-own}
 use borrow.Fn.PlainCycle.{Measures, is, falls, and}
+use Rattle.certify.proofs.reach.filled.Reads as filled
+use Rattle.certify.proofs.reach.filled.Kinds as filled-kinds
+use Rattle.certify.proofs.reach.+filled+keeps+least_reached+own_reached+try_again+try_at.Lts-filled as filled-lts
+use Rattle.certify.proofs.reach.keeps.Reads as keeps
+use Rattle.certify.proofs.reach.keeps.Kinds as keeps-kinds
+use Rattle.certify.proofs.reach.+filled+keeps+least_reached+own_reached+try_again+try_at.Lts-keeps as keeps-lts
 use Rattle.certify.proofs.reach.least_reached.Reads as least-reached
 use Rattle.certify.proofs.reach.least_reached.Kinds as least-reached-kinds
-use Rattle.certify.proofs.reach.+least_reached+own_reached+try_again+try_at.Lts-least_reached as least-reached-lts
+use Rattle.certify.proofs.reach.+filled+keeps+least_reached+own_reached+try_again+try_at.Lts-least_reached as least-reached-lts
 use Rattle.certify.proofs.reach.own_reached.Reads as own-reached
 use Rattle.certify.proofs.reach.own_reached.Kinds as own-reached-kinds
-use Rattle.certify.proofs.reach.+least_reached+own_reached+try_again+try_at.Lts-own_reached as own-reached-lts
+use Rattle.certify.proofs.reach.+filled+keeps+least_reached+own_reached+try_again+try_at.Lts-own_reached as own-reached-lts
 use Rattle.certify.proofs.reach.try_again.Reads as try-again
 use Rattle.certify.proofs.reach.try_again.Kinds as try-again-kinds
-use Rattle.certify.proofs.reach.+least_reached+own_reached+try_again+try_at.Lts-try_again as try-again-lts
+use Rattle.certify.proofs.reach.+filled+keeps+least_reached+own_reached+try_again+try_at.Lts-try_again as try-again-lts
 use Rattle.certify.proofs.reach.try_at.Reads as try-at
 use Rattle.certify.proofs.reach.try_at.Kinds as try-at-kinds
-use Rattle.certify.proofs.reach.+least_reached+own_reached+try_again+try_at.Lts-try_at as try-at-lts
+use Rattle.certify.proofs.reach.+filled+keeps+least_reached+own_reached+try_again+try_at.Lts-try_at as try-at-lts
 use Rattle.certify.proofs.Sought.below.Reads as below-reads
+use Rattle.certify.proofs.Sought.certified.Reads as certified-reads
 use Rattle.certify.proofs.own_message.Reads as own-message-reads
 use Rattle.certify.proofs.reach.crowded.Reads as crowded-reads
-use Rattle.certify.proofs.reach.filled.Reads as filled-reads
+use Rattle.certify.proofs.reach.fill.Reads as fill-reads
 use Rattle.certify.proofs.reach.grain_of.Reads as grain-of-reads
 use Rattle.certify.proofs.reach.kept.Reads as kept-reads
+use Rattle.certify.proofs.reach.lowered.Reads as lowered-reads
 use Rattle.certify.proofs.straight.straight.Reads as straight-reads
 use Rattle.certify.proofs.vain.in_vain.Reads as in-vain-reads
 use Rattle.certify.proofs.window.earliest.Reads as earliest-reads
 use Rattle.certify.proofs.window.following.Reads as following-reads
 use Rattle.machine.proofs.Memory.append.Reads as append-reads
+use Rattle.machine.proofs.promises.has.Reads as has-reads
+use Rattle.machine.proofs.promises.is_empty.Reads as is-empty-reads
 use Rattle.rules.proofs.execute.Reads as execute-reads
 use Rattle.rules.proofs.own_store.Reads as own-store-reads
 use Rattle.source.proofs.Code.instr_at.Reads as instr-at-reads
-use Rattle.certify.proofs.reach.+least_reached+own_reached+try_again+try_at.{statement}
-use Rattle.certify.proofs.reach.+least_reached+own_reached+try_again+try_at.Tie.{close}
+use Rattle.certify.proofs.reach.+filled+keeps+least_reached+own_reached+try_again+try_at.{
+  statement,
+}
+use Rattle.certify.proofs.reach.+filled+keeps+least_reached+own_reached+try_again+try_at.Tie.{
+  close,
+}
+
+abbrev μ-filled : Measures 0 filled-kinds.ps ℕ
+μ-filled κs a = 4 * (20 - a .1 .1 .1 .0 .position) + 2
+
+abbrev μ-keeps : Measures 0 keeps-kinds.ps ℕ
+μ-keeps κs a = 4 * (20 - a .1 .1 .1 .0 .position) + 1
 
 abbrev μ-least-reached : Measures 0 least-reached-kinds.ps ℕ
 μ-least-reached κs a = 4 * (20 - a .1 .1 .1 .0 .position) + 3
@@ -54,6 +74,18 @@ abbrev μ-try-again : Measures 0 try-again-kinds.ps ℕ
 
 abbrev μ-try-at : Measures 0 try-at-kinds.ps ℕ
 μ-try-at κs a = 4 * (20 - a .1 .1 .1 .0 .position) + 2
+
+abbrev filled-at : ℕ → In 0 filled-kinds.ps
+filled-at t = and 0 filled-kinds.ps (is 0 filled-kinds.ps μ-filled t) filled.Pre
+
+abbrev filled-below : ℕ → In 0 filled-kinds.ps
+filled-below t = and 0 filled-kinds.ps (falls 0 filled-kinds.ps _<_ μ-filled t) filled.Pre
+
+abbrev keeps-at : ℕ → In 0 keeps-kinds.ps
+keeps-at t = and 0 keeps-kinds.ps (is 0 keeps-kinds.ps μ-keeps t) keeps.Pre
+
+abbrev keeps-below : ℕ → In 0 keeps-kinds.ps
+keeps-below t = and 0 keeps-kinds.ps (falls 0 keeps-kinds.ps _<_ μ-keeps t) keeps.Pre
 
 abbrev least-reached-at : ℕ → In 0 least-reached-kinds.ps
 least-reached-at t =
@@ -88,14 +120,14 @@ try-at-at t = and 0 try-at-kinds.ps (is 0 try-at-kinds.ps μ-try-at t) try-at.Pr
 abbrev try-at-below : ℕ → In 0 try-at-kinds.ps
 try-at-below t = and 0 try-at-kinds.ps (falls 0 try-at-kinds.ps _<_ μ-try-at t) try-at.Pre
 
-abbrev least-reached-Inv-loop : least-reached-lts.InvT-loop
-least-reached-Inv-loop c i m q y now x here t₀ r₀ t r = Missed c i m y x q r t × (Better (q .from) (r₀ .best) (Meets c i m y (q .hole)) (r .best) × (t ≤ 17))
+abbrev filled-claims : ℕ → filled-lts.Claims
+filled-claims t = (has-reads.Asked, has-reads.Learnt, own-message-reads.Asked, own-message-reads.Learnt, lowered-reads.Asked, lowered-reads.Learnt, fill-reads.Asked, fill-reads.Learnt, keeps-below t, keeps.Post)
 
-abbrev least-reached-μ-loop : least-reached-lts.MeasureT-loop
-least-reached-μ-loop c i m q y now x here t₀ r₀ t r = 17 - t
+abbrev keeps-claims : ℕ → keeps-lts.Claims
+keeps-claims t = (execute-reads.Asked, execute-reads.Learnt, is-empty-reads.Asked, is-empty-reads.Learnt, certified-reads.Asked, certified-reads.Learnt, least-reached-below t, least-reached.Post)
 
 abbrev least-reached-claims : ℕ → least-reached-lts.Claims
-least-reached-claims t = (straight-reads.Asked, straight-reads.Learnt, kept-reads.Asked, kept-reads.Learnt, instr-at-reads.Asked, instr-at-reads.Learnt, below-reads.Asked, below-reads.Learnt, filled-reads.Asked, filled-reads.Learnt, earliest-reads.Asked, earliest-reads.Learnt, try-at-below t, try-at.Post, following-reads.Asked, following-reads.Learnt, own-reached-below t, own-reached.Post)
+least-reached-claims t = (straight-reads.Asked, straight-reads.Learnt, kept-reads.Asked, kept-reads.Learnt, crowded-reads.Asked, crowded-reads.Learnt, instr-at-reads.Asked, instr-at-reads.Learnt, below-reads.Asked, below-reads.Learnt, filled-below t, filled.Post, earliest-reads.Asked, earliest-reads.Learnt, try-at-below t, try-at.Post, following-reads.Asked, following-reads.Learnt, own-reached-below t, own-reached.Post)
 
 abbrev own-reached-claims : ℕ → own-reached-lts.Claims
 own-reached-claims t = (crowded-reads.Asked, crowded-reads.Learnt, own-store-reads.Asked, own-store-reads.Learnt, own-message-reads.Asked, own-message-reads.Learnt, append-reads.Asked, append-reads.Learnt, least-reached-below t, least-reached.Post)
@@ -105,6 +137,105 @@ try-again-claims t = (grain-of-reads.Asked, grain-of-reads.Learnt, in-vain-reads
 
 abbrev try-at-claims : ℕ → try-at-lts.Claims
 try-at-claims t = (execute-reads.Asked, execute-reads.Learnt, below-reads.Asked, below-reads.Learnt, kept-reads.Asked, kept-reads.Learnt, try-again-below t, try-again.Post, least-reached-below t, least-reached.Post)
+
+filled-has-requires : (t : ℕ) → filled-lts.Need-has-requires (filled-claims t) (filled-at t) filled.Post
+filled-has-requires t c κs = search needs
+
+filled-returns : (t : ℕ) → filled-lts.Need-returns (filled-claims t) (filled-at t) filled.Post
+filled-returns t c = fill-no-hole _ _ _ _ _ _ _ _ _ (c .before .has .ensures) (c .if1 .taken)
+
+filled-enum-known-x : (t : ℕ) → filled-lts.Need-enum-known-x (filled-claims t) (filled-at t) filled.Post
+filled-enum-known-x t c = search needs
+
+filled-own-message-requires : (t : ℕ) → filled-lts.Need-own-message-requires (filled-claims t) (filled-at t) filled.Post
+filled-own-message-requires t c κs = search needs
+
+filled-cast-lowered : (t : ℕ) → filled-lts.Need-cast-lowered (filled-claims t) (filled-at t) filled.Post
+filled-cast-lowered t c = search needs
+
+filled-mul-lowered : (t : ℕ) → filled-lts.Need-mul-lowered (filled-claims t) (filled-at t) filled.Post
+filled-mul-lowered t c = search needs
+
+filled-cast-lowered-2 : (t : ℕ) → filled-lts.Need-cast-lowered-2 (filled-claims t) (filled-at t) filled.Post
+filled-cast-lowered-2 t c = search needs
+
+filled-add-lowered : (t : ℕ) → filled-lts.Need-add-lowered (filled-claims t) (filled-at t) filled.Post
+filled-add-lowered t c = search needs
+
+filled-lowered-requires : (t : ℕ) → filled-lts.Need-lowered-requires (filled-claims t) (filled-at t) filled.Post
+filled-lowered-requires t c κs = search needs
+
+filled-returns-2 : (t : ℕ) → filled-lts.Need-returns-2 (filled-claims t) (filled-at t) filled.Post
+filled-returns-2 t c = fill-unsought _ _ _ _ _ _ _ _ _ _ _ (c .before .before .before .before .before .before .before .x .given .1) _ (c .before .before .before .before .before .own-message .ensures) _ (c .before .before .lowered .ensures) (c .if2 .taken)
+
+filled-fill-requires : (t : ℕ) → filled-lts.Need-fill-requires (filled-claims t) (filled-at t) filled.Post
+filled-fill-requires t c κs = hole-time _ _ _ _ (c .before .before .before .before .before .before .before .before .before .before .before .pre .1) _ _ (c .before .before .before .before .before .before .before .before .before .before .has .ensures) (c .before .before .before .before .before .before .before .before .before .if1 .left)
+
+filled-keeps-requires : (t : ℕ) → filled-lts.Need-keeps-requires (filled-claims t) (filled-at t) filled.Post
+filled-keeps-requires t c κs = (omega (arith, c .before .before .before .before .before .before .before .before .before .before .before .before .pre .0), trying-filled _ _ (c .before .before .before .before .before .before .before .before .before .before .before .before .pre .1) (c .fill .ensures) (c .before .before .before .before .before .before .before .before .x .given .1))
+
+filled-enum-told : (t : ℕ) → filled-lts.Need-enum-told (filled-claims t) (filled-at t) filled.Post
+filled-enum-told t c = search needs
+
+filled-enum-told-2 : (t : ℕ) → filled-lts.Need-enum-told-2 (filled-claims t) (filled-at t) filled.Post
+filled-enum-told-2 t c = search needs
+
+filled-enum-told-3 : (t : ℕ) → filled-lts.Need-enum-told-3 (filled-claims t) (filled-at t) filled.Post
+filled-enum-told-3 t c = search needs
+
+filled-enum-told-4 : (t : ℕ) → filled-lts.Need-enum-told-4 (filled-claims t) (filled-at t) filled.Post
+filled-enum-told-4 t c = search needs
+
+filled-returns-3 : (t : ℕ) → filled-lts.Need-returns-3 (filled-claims t) (filled-at t) filled.Post
+filled-returns-3 t c = fill-here _ _ _ _ _ _ _ _ _ _ _ (c .before .before .before .before .before .before .before .before .before .before .x .given .1) _ (c .before .before .before .before .before .before .before .before .own-message .ensures) _ (c .before .before .before .before .before .lowered .ensures) _ (c .before .before .fill .ensures) _ (c .before .keeps .ensures) (c .if3 .taken)
+
+filled-returns-4 : (t : ℕ) → filled-lts.Need-returns-4 (filled-claims t) (filled-at t) filled.Post
+filled-returns-4 t c = fill-fails _ _ _ _ _ _ _ _ _ _ _ (c .before .before .before .before .before .before .before .before .before .before .x .given .1) _ (c .before .before .before .before .before .before .before .before .own-message .ensures) _ (c .before .before .before .before .before .lowered .ensures) _ (c .before .before .fill .ensures) _ (c .before .keeps .ensures) (c .if3 .left)
+
+filled-returns-5 : (t : ℕ) → filled-lts.Need-returns-5 (filled-claims t) (filled-at t) filled.Post
+filled-returns-5 t c = fill-none _ _ _ _ _ _ _ _ (rw (c .enum-told .given .1))
+
+filled-returns-6 : (t : ℕ) → filled-lts.Need-returns-6 (filled-claims t) (filled-at t) filled.Post
+filled-returns-6 t c = fill-none _ _ _ _ _ _ _ _ (rw (c .enum-told2 .given .1))
+
+filled-returns-7 : (t : ℕ) → filled-lts.Need-returns-7 (filled-claims t) (filled-at t) filled.Post
+filled-returns-7 t c = fill-none _ _ _ _ _ _ _ _ (rw (c .enum-told3 .given .1))
+
+filled-returns-8 : (t : ℕ) → filled-lts.Need-returns-8 (filled-claims t) (filled-at t) filled.Post
+filled-returns-8 t c = fill-none _ _ _ _ _ _ _ _ (rw (c .enum-told4 .given .1))
+
+keeps-execute-requires : (t : ℕ) → keeps-lts.Need-execute-requires (keeps-claims t) (keeps-at t) keeps.Post
+keeps-execute-requires t c κs = let w = c .pre .1 in (reach-byte _ _ _ _ w, w .ready .room)
+
+keeps-enum-told : (t : ℕ) → keeps-lts.Need-enum-told (keeps-claims t) (keeps-at t) keeps.Post
+keeps-enum-told t c = search needs
+
+keeps-enum-told-2 : (t : ℕ) → keeps-lts.Need-enum-told-2 (keeps-claims t) (keeps-at t) keeps.Post
+keeps-enum-told-2 t c = search needs
+
+keeps-returns : (t : ℕ) → keeps-lts.Need-returns (keeps-claims t) (keeps-at t) keeps.Post
+keeps-returns t c = keeps-refused _ _ _ _ _ _ _ (c .before .before .execute .ensures) _ (c .enum-told2 .given .1)
+
+keeps-is-empty-requires : (t : ℕ) → keeps-lts.Need-is-empty-requires (keeps-claims t) (keeps-at t) keeps.Post
+keeps-is-empty-requires t c κs = search needs
+
+keeps-returns-2 : (t : ℕ) → keeps-lts.Need-returns-2 (keeps-claims t) (keeps-at t) keeps.Post
+keeps-returns-2 t c = keeps-done _ _ _ _ _ _ _ (c .before .before .before .before .before .execute .ensures) (c .before .before .before .enum-told .given .1) _ (certified-empty _ _ _ _ _ (c .before .is-empty .ensures) (c .if1 .taken))
+
+keeps-certified-requires : (t : ℕ) → keeps-lts.Need-certified-requires (keeps-claims t) (keeps-at t) keeps.Post
+keeps-certified-requires t c κs = search needs
+
+keeps-least-reached-requires : (t : ℕ) → keeps-lts.Need-least-reached-requires (keeps-claims t) (keeps-at t) keeps.Post
+keeps-least-reached-requires t c κs = let d = ruled-done _ _ _ (c .before .before .before .before .before .before .execute .ensures) (c .before .before .before .before .enum-told .given .1) in let f = further-by _ _ _ _ (c .before .before .before .before .before .before .before .pre .1) _ _ d in (omega (arith, c .before .before .before .before .before .before .before .pre .0), ready-after (c .before .before .before .before .before .before .before .pre .1 .ready) (effect _ _ _ _ _ d))
+
+keeps-returns-3 : (t : ℕ) → keeps-lts.Need-returns-3 (keeps-claims t) (keeps-at t) keeps.Post
+keeps-returns-3 t c = keeps-done _ _ _ _ _ _ _ (c .before .before .before .before .before .before .before .execute .ensures) (c .before .before .before .before .before .enum-told .given .1) _ (found-certified _ _ _ _ _ (rw (c .before .certified .ensures) at (c .least-reached .ensures)))
+
+abbrev least-reached-Inv-loop : least-reached-lts.InvT-loop
+least-reached-Inv-loop c i m q y now x here t₀ r₀ t r = Missed c i m y x q r t × (Better (q .from) (r₀ .best) (Meets c i m y (q .hole)) (r .best) × (t ≤ 17))
+
+abbrev least-reached-μ-loop : least-reached-lts.MeasureT-loop
+least-reached-μ-loop c i m q y now x here t₀ r₀ t r = 17 - t
 
 least-reached-straight-requires : (t : ℕ) → least-reached-lts.Need-straight-requires (least-reached-claims t) (least-reached-at t) least-reached.Post least-reached-Inv-loop least-reached-μ-loop
 least-reached-straight-requires t c κs = c .pre .1
@@ -118,29 +249,35 @@ least-reached-returns t c = straight-least _ _ _ _ _ (c .before .before .before 
 least-reached-returns-2 : (t : ℕ) → least-reached-lts.Need-returns-2 (least-reached-claims t) (least-reached-at t) least-reached.Post least-reached-Inv-loop least-reached-μ-loop
 least-reached-returns-2 t c = straight-least _ _ _ _ _ (c .before .before .before .before .before .before .straight .ensures) _ _ _ _ (reach-end _ _ _ _ _ _ (c .before .before .before .before .before .kept .ensures) (c .if2 .taken))
 
+least-reached-crowded-requires : (t : ℕ) → least-reached-lts.Need-crowded-requires (least-reached-claims t) (least-reached-at t) least-reached.Post least-reached-Inv-loop least-reached-μ-loop
+least-reached-crowded-requires t c κs = c .before .before .before .before .before .before .before .pre .1 .code-ok .short
+
+least-reached-returns-3 : (t : ℕ) → least-reached-lts.Need-returns-3 (least-reached-claims t) (least-reached-at t) least-reached.Post least-reached-Inv-loop least-reached-μ-loop
+least-reached-returns-3 t c = straight-least _ _ _ _ _ (c .before .before .before .before .before .before .before .before .straight .ensures) _ _ _ _ (reach-crowded _ _ _ _ _ _ (c .before .before .before .before .before .before .before .kept .ensures) _ (c .before .crowded .ensures) (c .if3 .taken))
+
 least-reached-instr-at-requires : (t : ℕ) → least-reached-lts.Need-instr-at-requires (least-reached-claims t) (least-reached-at t) least-reached.Post least-reached-Inv-loop least-reached-μ-loop
-least-reached-instr-at-requires t c κs = let h = c .before .before .before .before .before .before .before .pre .1 .code-ok .short in let l = c .if2 .left in (omega arith, l)
+least-reached-instr-at-requires t c κs = let h = c .before .before .before .before .before .before .before .before .before .pre .1 .code-ok .short in let l = c .before .before .if2 .left in (omega arith, l)
 
 least-reached-below-requires : (t : ℕ) → least-reached-lts.Need-below-requires (least-reached-claims t) (least-reached-at t) least-reached.Post least-reached-Inv-loop least-reached-μ-loop
 least-reached-below-requires t c κs = search needs
 
 least-reached-filled-requires : (t : ℕ) → least-reached-lts.Need-filled-requires (least-reached-claims t) (least-reached-at t) least-reached.Post least-reached-Inv-loop least-reached-μ-loop
-least-reached-filled-requires t c κs = c .before .before .before .before .before .before .before .before .before .pre .1 .code-ok .short
+least-reached-filled-requires t c κs = let f = c .before .before .before .before .before .before .before .before .before .before .straight .ensures .further in (omega (arith, c .before .before .before .before .before .before .before .before .before .before .before .pre .0), record { ready = c .before .before .before .before .before .before .before .before .before .before .straight .ensures .ready; is-next = c .before .instr-at .ensures })
 
 least-reached-earliest-requires : (t : ℕ) → least-reached-lts.Need-earliest-requires (least-reached-claims t) (least-reached-at t) least-reached.Post least-reached-Inv-loop least-reached-μ-loop
-least-reached-earliest-requires t c κs = c .before .before .before .before .before .before .before .before .before .before .pre .1 .room
+least-reached-earliest-requires t c κs = c .before .before .before .before .before .before .before .before .before .before .before .before .pre .1 .room
 
 least-reached-loop-holds : (t : ℕ) → least-reached-lts.Need-loop-holds (least-reached-claims t) (least-reached-at t) least-reached.Post least-reached-Inv-loop least-reached-μ-loop
 least-reached-loop-holds t c = (missed-none _ _ _ _ _ _ _ _ (c .earliest .ensures), (better-same _ _ _, c .earliest .ensures .within))
 
 least-reached-try-at-requires : (t : ℕ) → least-reached-lts.Need-try-at-requires (least-reached-claims t) (least-reached-at t) least-reached.Post least-reached-Inv-loop least-reached-μ-loop
-least-reached-try-at-requires t c κs = let f = c .before .before .before .before .before .before .before .before .before .before .before .before .straight .ensures .further in (omega (arith, c .before .before .before .before .before .before .before .before .before .before .before .before .before .pre .0), (record { ready = c .before .before .before .before .before .before .before .before .before .before .before .before .straight .ensures .ready; is-next = c .before .before .before .before .before .instr-at .ensures }, (c .loop-test .taken, c .before .loop .inv .0)))
+least-reached-try-at-requires t c κs = let f = c .before .before .before .before .before .before .before .before .before .before .before .before .before .before .straight .ensures .further in (omega (arith, c .before .before .before .before .before .before .before .before .before .before .before .before .before .before .before .pre .0), (record { ready = c .before .before .before .before .before .before .before .before .before .before .before .before .before .before .straight .ensures .ready; is-next = c .before .before .before .before .before .instr-at .ensures }, (c .loop-test .taken, c .before .loop .inv .0)))
 
-least-reached-returns-3 : (t : ℕ) → least-reached-lts.Need-returns-3 (least-reached-claims t) (least-reached-at t) least-reached.Post least-reached-Inv-loop least-reached-μ-loop
-least-reached-returns-3 t c = straight-least _ _ _ _ _ (c .before .before .before .before .before .before .before .before .before .before .before .before .before .before .before .before .straight .ensures) _ _ _ _ (reach-found _ _ _ _ _ _ (c .before .before .before .before .before .before .before .before .before .before .before .before .before .before .before .kept .ensures) _ (c .before .before .before .before .before .before .before .before .before .instr-at .ensures) _ (rw (c .before .before .before .before .before .before .before .before .below .ensures) at (c .before .before .before .before .before .before .before .filled .ensures)) _ (better-on (c .before .before .before .before .before .loop .inv .1 .0) (c .before .before .before .try-at .ensures .better)) (c .if3 .taken))
+least-reached-returns-4 : (t : ℕ) → least-reached-lts.Need-returns-4 (least-reached-claims t) (least-reached-at t) least-reached.Post least-reached-Inv-loop least-reached-μ-loop
+least-reached-returns-4 t c = straight-least _ _ _ _ _ (c .before .before .before .before .before .before .before .before .before .before .before .before .before .before .before .before .before .before .straight .ensures) _ _ _ _ (reach-found _ _ _ _ _ _ (c .before .before .before .before .before .before .before .before .before .before .before .before .before .before .before .before .before .kept .ensures) _ (c .before .before .before .before .before .before .before .before .before .instr-at .ensures) _ (rw (c .before .before .before .before .before .before .before .before .below .ensures) at (c .before .before .before .before .before .before .before .filled .ensures)) _ (better-on (c .before .before .before .before .before .loop .inv .1 .0) (c .before .before .before .try-at .ensures .better)) (c .if4 .taken))
 
 least-reached-following-requires : (t : ℕ) → least-reached-lts.Need-following-requires (least-reached-claims t) (least-reached-at t) least-reached.Post least-reached-Inv-loop least-reached-μ-loop
-least-reached-following-requires t c κs = (c .before .before .before .before .before .before .before .before .before .before .before .before .before .before .before .before .before .pre .1 .room, c .before .before .before .before .loop-test .taken)
+least-reached-following-requires t c κs = (c .before .before .before .before .before .before .before .before .before .before .before .before .before .before .before .before .before .before .before .pre .1 .room, c .before .before .before .before .loop-test .taken)
 
 least-reached-loop-less : (t : ℕ) → least-reached-lts.Need-loop-less (least-reached-claims t) (least-reached-at t) least-reached.Post least-reached-Inv-loop least-reached-μ-loop
 least-reached-loop-less t c = let l = c .before .before .before .before .before .loop-test .taken in let k = c .following .ensures .later in omega arith
@@ -152,10 +289,10 @@ least-reached-below-requires-2 : (t : ℕ) → least-reached-lts.Need-below-requ
 least-reached-below-requires-2 t c κs = search needs
 
 least-reached-own-reached-requires : (t : ℕ) → least-reached-lts.Need-own-reached-requires (least-reached-claims t) (least-reached-at t) least-reached.Post least-reached-Inv-loop least-reached-μ-loop
-least-reached-own-reached-requires t c κs = let f = c .before .before .before .before .before .before .before .before .before .before .before .before .before .straight .ensures .further in (omega (arith, c .before .before .before .before .before .before .before .before .before .before .before .before .before .before .pre .0), record { ready = c .before .before .before .before .before .before .before .before .before .before .before .before .before .straight .ensures .ready; is-next = c .before .before .before .before .before .before .instr-at .ensures })
+least-reached-own-reached-requires t c κs = let f = c .before .before .before .before .before .before .before .before .before .before .before .before .before .before .before .straight .ensures .further in (omega (arith, c .before .before .before .before .before .before .before .before .before .before .before .before .before .before .before .before .pre .0), record { ready = c .before .before .before .before .before .before .before .before .before .before .before .before .before .before .before .straight .ensures .ready; is-next = c .before .before .before .before .before .before .instr-at .ensures })
 
-least-reached-returns-4 : (t : ℕ) → least-reached-lts.Need-returns-4 (least-reached-claims t) (least-reached-at t) least-reached.Post least-reached-Inv-loop least-reached-μ-loop
-least-reached-returns-4 t c = straight-least _ _ _ _ _ (c .before .before .before .before .before .before .before .before .before .before .before .before .before .before .straight .ensures) _ _ _ _ (reach-all _ _ _ _ _ _ (c .before .before .before .before .before .before .before .before .before .before .before .before .before .kept .ensures) _ (c .before .before .before .before .before .before .before .instr-at .ensures) _ (rw (c .before .before .before .before .before .before .below .ensures) at (c .before .before .before .before .before .filled .ensures)) (c .before .before .before .before .before .before .before .before .before .before .before .before .before .before .before .pre .1 .room) _ _ (c .before .before .before .loop .inv .1 .0) (c .before .before .before .loop .inv .0) (c .before .before .loop-test .left) _ (rw (c .before .below2 .ensures) at (c .own-reached .ensures)))
+least-reached-returns-5 : (t : ℕ) → least-reached-lts.Need-returns-5 (least-reached-claims t) (least-reached-at t) least-reached.Post least-reached-Inv-loop least-reached-μ-loop
+least-reached-returns-5 t c = straight-least _ _ _ _ _ (c .before .before .before .before .before .before .before .before .before .before .before .before .before .before .before .before .straight .ensures) _ _ _ _ (reach-all _ _ _ _ _ _ (c .before .before .before .before .before .before .before .before .before .before .before .before .before .before .before .kept .ensures) _ (c .before .before .before .before .before .before .before .instr-at .ensures) _ (rw (c .before .before .before .before .before .before .below .ensures) at (c .before .before .before .before .before .filled .ensures)) (c .before .before .before .before .before .before .before .before .before .before .before .before .before .before .before .before .before .pre .1 .room) _ _ (c .before .before .before .loop .inv .1 .0) (c .before .before .before .loop .inv .0) (c .before .before .loop-test .left) _ (rw (c .before .below2 .ensures) at (c .own-reached .ensures)))
 
 own-reached-returns : (t : ℕ) → own-reached-lts.Need-returns (own-reached-claims t) (own-reached-at t) own-reached.Post
 own-reached-returns t c = least-empty _ _ _ (c .if1 .taken)
@@ -277,9 +414,51 @@ try-at-least-reached-requires t c κs = let d = ruled-done _ _ _ (c .before .bef
 try-at-returns-4 : (t : ℕ) → try-at-lts.Need-returns-4 (try-at-claims t) (try-at-at t) try-at.Post
 try-at-returns-4 t c = went-on _ _ _ _ _ _ _ _ (c .before .before .before .before .before .before .before .before .before .before .before .pre .1 .1 .1) (c .before .before .before .before .before .before .before .before .before .before .before .pre .1 .0) _ (ruled-done _ _ _ (c .before .before .before .before .before .before .before .before .before .before .execute .ensures) (c .before .before .before .before .before .before .before .before .enum-told .given .1)) _ (rw (c .before .below2 .ensures) at (c .least-reached .ensures)) _ (inl refl) _ (grain-other _ _ _)
 
-pub +least-reached+own-reached+try-again+try-at-spec : {M : Type 1} → statement M
-+least-reached+own-reached+try-again+try-at-spec =
-    close μ-least-reached μ-own-reached μ-try-again μ-try-at (λ t. least-reached-lts.spec (least-reached-claims t) (least-reached-at t)
+pub +filled+keeps+least-reached+own-reached+try-again+try-at-spec : {M : Type 1} → statement M
++filled+keeps+least-reached+own-reached+try-again+try-at-spec =
+    close
+    μ-filled
+    μ-keeps
+    μ-least-reached
+    μ-own-reached
+    μ-try-again
+    μ-try-at
+    (λ t. filled-lts.spec (filled-claims t) (filled-at t)
+    filled.Post
+    (filled-has-requires t)
+    (filled-returns t)
+    (filled-enum-known-x t)
+    (filled-own-message-requires t)
+    (filled-cast-lowered t)
+    (filled-mul-lowered t)
+    (filled-cast-lowered-2 t)
+    (filled-add-lowered t)
+    (filled-lowered-requires t)
+    (filled-returns-2 t)
+    (filled-fill-requires t)
+    (filled-keeps-requires t)
+    (filled-enum-told t)
+    (filled-enum-told-2 t)
+    (filled-enum-told-3 t)
+    (filled-enum-told-4 t)
+    (filled-returns-3 t)
+    (filled-returns-4 t)
+    (filled-returns-5 t)
+    (filled-returns-6 t)
+    (filled-returns-7 t)
+    (filled-returns-8 t))
+    (λ t. keeps-lts.spec (keeps-claims t) (keeps-at t)
+    keeps.Post
+    (keeps-execute-requires t)
+    (keeps-enum-told t)
+    (keeps-enum-told-2 t)
+    (keeps-returns t)
+    (keeps-is-empty-requires t)
+    (keeps-returns-2 t)
+    (keeps-certified-requires t)
+    (keeps-least-reached-requires t)
+    (keeps-returns-3 t))
+    (λ t. least-reached-lts.spec (least-reached-claims t) (least-reached-at t)
     least-reached.Post
     least-reached-Inv-loop
     least-reached-μ-loop
@@ -287,19 +466,21 @@ pub +least-reached+own-reached+try-again+try-at-spec : {M : Type 1} → statemen
     (least-reached-kept-requires t)
     (least-reached-returns t)
     (least-reached-returns-2 t)
+    (least-reached-crowded-requires t)
+    (least-reached-returns-3 t)
     (least-reached-instr-at-requires t)
     (least-reached-below-requires t)
     (least-reached-filled-requires t)
     (least-reached-earliest-requires t)
     (least-reached-loop-holds t)
     (least-reached-try-at-requires t)
-    (least-reached-returns-3 t)
+    (least-reached-returns-4 t)
     (least-reached-following-requires t)
     (least-reached-loop-less t)
     (least-reached-loop-again t)
     (least-reached-below-requires-2 t)
     (least-reached-own-reached-requires t)
-    (least-reached-returns-4 t))
+    (least-reached-returns-5 t))
     (λ t. own-reached-lts.spec (own-reached-claims t) (own-reached-at t)
     own-reached.Post
     (own-reached-returns t)
