@@ -118,7 +118,7 @@ pub certified-iff : (c : Code) (i : ℕ) (m : Memory) (s : Thread) → T (certif
 unfolding certified
 certified-iff c i m s = (run-of _ c i m s, λ r. test-of _ r (omega arith))
 
-same-test : (a b : Bool) → (T a → T b) → (T b → T a) → a ≡ b
+pub same-test : (a b : Bool) → (T a → T b) → (T b → T a) → a ≡ b
 same-test true true f g = refl
 same-test true false f g = absurd (f tt)
 same-test false true f g = absurd (g tt)

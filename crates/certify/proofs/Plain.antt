@@ -1,20 +1,17 @@
 -- Instructions that have one way to go on: a run from before them is a run from after them.
 -- Assumes nothing.
-use mathlib.Core.Path.{_≡_, refl, sym, ap, subst, _∙_}
+use mathlib.Core.Path.{_≡_, refl, sym, ap, subst, subst₂, _∙_}
 use mathlib.Core.Logic.{inl, inr}
-use mathlib.Core.Bool.{Bool, false, not}
 use mathlib.Core.Option.{some}
 use Prim.Native.Nat.{ℕ, _<_}
 use native.Mathlib.Nat.{le-refl}
 use native.Mathlib.Omega.{arith}
 use lib.Dec.{T}
 use Rattle.source.specs.Program.{instrAt}
+use Rattle.machine.specs.State.{freshMemory}
 use Rattle.machine.specs.Rules.{next, computeDone, branchDone, fenceDone, execute}
-use Rattle.machine.specs.Answers.{ruled}
-use Rattle.machine.specs.declared.Ruled.{Ruled}
-use Rattle.machine.proofs.Cases.{was-true}
 use Rattle.machine.proofs.Effects.{Effect, computed, loaded, stored, branched, fenced, effect, moves}
-use Rattle.certify.specs.Below.{Code, Instr, Compute, Load, Store, Branch, Fence, Message, Memory, Thread}
+use Rattle.certify.specs.Below.{Code, Operand, ComputeMode, FenceMode, Instr, Compute, Load, Store, Branch, Fence, Message, Memory, Thread}
 use Rattle.certify.specs.Certify.{messageOf}
 use Rattle.certify.specs.Answers.{Ready}
 use Rattle.certify.specs.Runs.{done, by, own}
@@ -27,16 +24,7 @@ some-same : (x y : Instr) → some x ≡ some y → x ≡ y
 some-same x y e = cc
 
 -- ---- one plain instruction
--- what it leaves
-plain-goes : (x : Instr) → T (isPlain x) → (m : Memory) (s : Thread) → (s' : Thread) × Effect m 0 s x s'
-unfolding isPlain
-plain-goes (Compute k r a b) p m s = (computeDone k r a b s, computed refl)
-plain-goes (Load k r a b) p m s = absurd p
-plain-goes (Store k a d) p m s = absurd p
-plain-goes (Branch n a b) p m s = (branchDone n a b s, branched refl)
-plain-goes (Fence k) p m s = (fenceDone k s, fenced refl)
-
--- it leaves that at whatever time, and the promises as they were
+-- it leaves the same at whatever time, and the promises as they were
 plain-same : {x : Instr} {m : Memory} {t u : ℕ} {s s' s'' : Thread} → T (isPlain x) → Effect m t s x s' → Effect m u s x s'' → s'' ≡ s'
 unfolding isPlain
 plain-same p (computed e) (computed e') = refl
@@ -79,29 +67,33 @@ module _ (c : Code) (m : Memory) (y y' : Thread) (x : Instr) (g : instrAt c (y .
 pub straight-self : (c : Code) (m : Memory) (s : Thread) → Ready c m s → Straight c m s s
 straight-self c m s o = record { ready = o; further = le-refl _; there = λ i h k w. w; back = λ i h k w. w }
 
-pub straight-on : (c : Code) (m : Memory) (s y : Thread) → Straight c m s y → (x : Instr) → instrAt c (y .position) ≡ some x → (b : Bool) → b ≡ isPlain x → not b ≡ false
-    → (r : Ruled) → r ≡ ruled y (execute x m 0 y) → Straight c m s (r .thread) × (y .position < r .thread .position)
-straight-on c m s y o x g b e n r q = go (plain-goes x plain m y)
-  where
-    plain : T (isPlain x)
-    plain = subst T (sym (was-true e n)) tt
+module _ (c : Code) (s y : Thread) (o : (m : Memory) → Ready c m s → Straight c m s y) (x : Instr) (g : instrAt c (y .position) ≡ some x) (y' : Thread) where
+  straight-on : T (isPlain x) → ((m : Memory) → Effect m 0 y x y') → ((m : Memory) → Ready c m s → Straight c m s y') × (y .position < y' .position)
+  straight-on plain f =
+      let h = moves (f freshMemory) in (
+        λ m ready.
+            let q = o m ready in
+            let low = q .further in
+            record {
+              ready = ready-after (q .ready) (f m);
+              further = omega arith;
+              there = λ i a k z. q .there i a k (plain-there c m y y' x g plain (f m) i a k z);
+              back = λ i a k z. plain-back c m y y' x g plain (f m) i a k (q .back i a k z);
+            },
+        h,
+      )
 
-    go : (y' : Thread) × Effect m 0 y x y' → Straight c m s (r .thread) × (y .position < r .thread .position)
-    go w =
-        let y' = w .0 in
-        let f = w .1 in
-        let same : y' ≡ r .thread = sym (ap (λ (v : Ruled). v .thread) (q ∙ ap (ruled y) (executes f))) in
-        let h = moves f in
-        let low = o .further in
-        subst (λ (v : Thread). Straight c m s v × (y .position < v .position)) same (
-          record {
-            ready = ready-after (o .ready) f;
-            further = omega arith;
-            there = λ i a k z. o .there i a k (plain-there c m y y' x g plain f i a k z);
-            back = λ i a k z. plain-back c m y y' x g plain f i a k (o .back i a k z);
-          },
-          h,
-        )
+  pub straight-compute : (k : ComputeMode) (r : ℕ) (a b : Operand) → x ≡ Compute k r a b → y' ≡ computeDone k r a b y → ((m : Memory) → Ready c m s → Straight c m s y') × (y .position < y' .position)
+  unfolding isPlain
+  straight-compute k r a b is e = straight-on (subst (λ (z : Instr). T (isPlain z)) (sym is) tt) (λ m. subst₂ (Effect m 0 y) (sym is) (sym e) (computed refl))
+
+  pub straight-branch : (n : ℕ) (a b : Operand) → x ≡ Branch n a b → y' ≡ branchDone n a b y → ((m : Memory) → Ready c m s → Straight c m s y') × (y .position < y' .position)
+  unfolding isPlain
+  straight-branch n a b is e = straight-on (subst (λ (z : Instr). T (isPlain z)) (sym is) tt) (λ m. subst₂ (Effect m 0 y) (sym is) (sym e) (branched refl))
+
+  pub straight-fence : (k : FenceMode) → x ≡ Fence k → y' ≡ fenceDone k y → ((m : Memory) → Ready c m s → Straight c m s y') × (y .position < y' .position)
+  unfolding isPlain
+  straight-fence k is e = straight-on (subst (λ (z : Instr). T (isPlain z)) (sym is) tt) (λ m. subst₂ (Effect m 0 y) (sym is) (sym e) (fenced refl))
 
 pub straight-least : (c : Code) (i : ℕ) (m : Memory) (s y : Thread) → Straight c m s y → (h from best r : ℕ) → Least from best (Meets c i m y h) r → Least from best (Meets c i m s h) r
 straight-least c i m s y o h from best r l = least-as from best (Meets c i m y h) (Meets c i m s h) r (λ k w. o .there i h k w) (λ k w. o .back i h k w) l

@@ -2,26 +2,30 @@
 -- Assumes nothing.
 use mathlib.Core.Path.{_≡_, refl, sym, ap, ap₂, _∙_, subst, subst₂}
 use mathlib.Core.Logic.{_⊎_, inl, inr, ⊎-elim}
-use mathlib.Core.Bool.{Bool, true, false, not}
+use mathlib.Core.Bool.{Bool, true, false, not, _&&_}
 use mathlib.Core.Option.{none, some}
-use Prim.Native.Nat.{ℕ, suc, _+_, _-_, _*_, _≤_, _<_}
+use Prim.Native.Nat.{ℕ, suc, _+_, _-_, _*_, _^_, _≤_, _<_}
 use native.Mathlib.Nat.{le-refl}
 use native.Mathlib.Decide.{decLt}
 use native.Mathlib.Omega.{arith}
 use lib.Count.{ones}
-use lib.Dec.{T, eqb, ltb, eqb→eq, ltb→lt}
+use lib.Dec.{T, eqb, ltb, eqb→eq, ltb→lt, lt→ltb}
+use lib.ListN.{length}
+use lib.Seq.{getD-set-same}
+use Rattle.views.specs.Views.{viewAt}
 use Rattle.source.specs.Program.{instrAt}
 use Rattle.source.specs.Counts.{storesFrom}
 use Rattle.source.proofs.Counts.{there, stores-past, stores-fall}
-use Rattle.source.proofs.Tests.{eq→eqb, is-true, is-false}
-use Rattle.machine.specs.State.{append, has}
-use Rattle.machine.specs.Rules.{refused, next, viewOf₂, loadDone, execute, addPromise}
-use Rattle.machine.specs.Answers.{ruled, storeMessage, ownStore}
+use Rattle.source.proofs.Tests.{and-left, and-right, and-both, eq→eqb, is-true, is-false}
+use Rattle.machine.specs.State.{noMessage, append, has, without}
+use Rattle.machine.specs.Rules.{refused, next, valueOf, viewOf, viewOf₂, loadDone, storePre, storeDone, execute, addPromise}
+use Rattle.machine.specs.Answers.{ruled, belowTime, storeMessage, ownStore}
 use Rattle.machine.specs.declared.RuleAnswer.the-variants.{Done, Refused}
 use Rattle.machine.specs.declared.Ruled.{Ruled}
-use Rattle.machine.proofs.Sets.{has-positive, has-time, ones-none}
+use Rattle.machine.proofs.Sets.{has-positive, has-time, ones-none, ones-without}
+use Rattle.machine.proofs.Words.{ones-eqb}
 use Rattle.machine.proofs.Cases.{was-true, ruled-done, ruled-refused}
-use Rattle.machine.proofs.Effects.{loadLocation, loadPostView, Effect, computed, loaded, stored, branched, fenced, effect, effect-time, moves}
+use Rattle.machine.proofs.Effects.{loadLocation, loadPostView, storeLocation, Promised, Effect, computed, loaded, stored, branched, fenced, effect, effect-time, moves}
 use Rattle.certify.specs.Below.{Code, Operand, StoreMode, Instr, Load, Store, Message, Memory, Thread}
 use Rattle.certify.specs.Certify.{messageOf, onward, certified}
 use Rattle.certify.specs.Answers.{Trying, Earliest, Following}
@@ -29,7 +33,7 @@ use Rattle.certify.specs.Runs.{Comes, done, by, own}
 use Rattle.certify.specs.Sought.{Sought, Tried, fill, Fills, Aim, Better, Least, Meets, Owns, Missed, Went}
 use Rattle.certify.specs.Tries.{Grain, Vain}
 use Rattle.certify.proofs.Tries.{vain-matches, grain-other}
-use Rattle.certify.proofs.Iff.{onward-inv, onward-next, certified-iff}
+use Rattle.certify.proofs.Iff.{onward-inv, onward-next, certified-iff, same-test}
 use Rattle.certify.proofs.Executes.{executes}
 use Rattle.certify.proofs.Fit.{takes, no-message, own-effect, own-leaves, comes-fit, promises-fit}
 use Rattle.certify.proofs.Alike.{Alike, follows, same-message, comes-alike, monotone, later-done, in-vain}
@@ -169,6 +173,54 @@ trying-filled {c} {m} {m'} {s} {x} {y} h w t me e =
     subst (λ (z : Memory). Trying c z s y) (sym me)
     (record { ready = record { code-ok = t .ready .code-ok; room = t .ready .room; promises-in = t .ready .promises-in }; is-next = t .is-next ∙ ap some e })
 
+-- where the hole is the only promise, filling it keeps all promises if the views are below its time
+pub fill-alone : (c : Code) (i : ℕ) (m : Memory) (s : Thread) (k : StoreMode) (a d : Operand) (h : ℕ) (w : Message) → w ≡ storeMessage i a d s → s .promises < 2 ^ m .count → m .count ≤ 16
+    → length (m .messages) ≡ 16 → (o : Bool) → o ≡ has (s .promises) h → not o ≡ false → ones (s .promises) ≡ 1 → (b : Bool) → b ≡ belowTime k h (w .location) (viewOf s a) (viewOf s d) s
+    → b ≡ onward (certified c i (fill m h w)) (execute (Store k a d) (fill m h w) h s)
+unfolding belowTime
+fill-alone c i m s k a d h w we promised-in room places o oe on one b be = same-test b (onward (certified c i m') (execute (Store k a d) m' h s)) forth back
+  where
+    m' : Memory
+    m' = fill m h w
+
+    out : T (has (s .promises) h)
+    out = subst T (sym (was-true oe on)) tt
+
+    pre : ℕ
+    pre = storePre k (viewOf s a) (viewOf s d) (s .views)
+
+    at : w .location ≡ storeLocation s a
+    at = ap (λ (y : Message). y .location) we
+
+    kept-then : storeDone k h (storeLocation s a) (viewOf s a) (viewOf s d) s .promises ≡ 0
+    kept-then =
+        let left = ones-without (s .promises) h out in
+        let none : ones (without (s .promises) h) ≡ 0 = omega arith in
+        eqb→eq (without (s .promises) h) 0 (subst T (ones-eqb (without (s .promises) h)) (eq→eqb none))
+
+    promise : Promised m' h (storeLocation s a) (valueOf s d) s
+    promise =
+        let pos = has-positive (s .promises) h out in
+        let low = has-time (s .promises) (m .count) h promised-in out in
+        let there = getD-set-same (m .messages) (h - 1) w noMessage (omega arith) in
+        record { out = out; in-memory = low; at-location = ap (λ (y : Message). y .location) (there ∙ we); at-value = ap (λ (y : Message). y .value) (there ∙ we) }
+
+    forth : T b → T (onward (certified c i m') (execute (Store k a d) m' h s))
+    forth t =
+        let both : T (ltb pre h && ltb (viewAt (s .coherence) (w .location)) h) = subst T be t in
+        let low = ltb→lt _ h (and-right (ltb pre h) (ltb (viewAt (s .coherence) (w .location)) h) both) in
+        let f = stored {k = k} {a = a} {d = d} promise (ltb→lt pre h (and-left (ltb pre h) (ltb (viewAt (s .coherence) (w .location)) h) both)) (subst (λ (l : ℕ). viewAt (s .coherence) l < h) at low) in
+        onward-next (certified c i m') (execute (Store k a d) m' h s) _ (executes f) (certified-iff c i m' _ .1 (done kept-then))
+
+    tells : (s' : Thread) → Effect m' h s (Store k a d) s' → T (belowTime k h (w .location) (viewOf s a) (viewOf s d) s)
+    tells s' (stored p early low) =
+        and-both (ltb pre h) (ltb (viewAt (s .coherence) (w .location)) h) (lt→ltb pre h early) (lt→ltb _ h (subst (λ (l : ℕ). viewAt (s .coherence) l < h) (sym at) low))
+
+    back : T (onward (certified c i m') (execute (Store k a d) m' h s)) → T b
+    back t =
+        let q = onward-inv (certified c i m') (execute (Store k a d) m' h s) t in
+        subst T (sym be) (tells (q .0) (effect (Store k a d) m' h s (q .0) (q .1)))
+
 -- whether the instruction can be executed and the thread is then certified
 module _ (c : Code) (i : ℕ) (m : Memory) (s : Thread) (x : Instr) (t : ℕ) (u : Ruled) (e : u ≡ ruled s (execute x m t s)) where
   pub keeps-refused : (n : ℕ) → u .answer ≡ Refused n → false ≡ onward (certified c i m) (execute x m t s)
@@ -244,14 +296,6 @@ module _ (c : Code) (i : ℕ) (m : Memory) (s : Thread) (q : Sought) (now : ℕ)
       ended k a b (done (inr (x, g, f))) = past x g
       ended k a b (by x t s' g tl e r) = past x g
       ended k a b (own x w s' g gw room e r) = past x g
-
-  -- too few stores are left
-  pub reach-crowded : (b : Bool) → b ≡ ltb (storesFrom c (s .position)) (ones (s .promises)) → b ≡ true → Least (q .from) (q .best) (Meets c i m s (q .hole)) now
-  reach-crowded b e t =
-      record {
-        better = kept-meets;
-        least = λ k l h r. let f = comes-fit (aim-fits c i (q .hole) k) r in let z = crowds (storesFrom c (s .position)) (ones (s .promises)) b e t in omega arith;
-      }
 
   -- ---- its instruction x
   module _ (x : Instr) (is-next : instrAt c (s .position) ≡ some x) (here : ℕ) (fills : Least (q .from) now (λ k. Fills c i x (q .hole) k m s) here) where
@@ -335,6 +379,14 @@ module _ (c : Code) (i : ℕ) (m : Memory) (s : Thread) (x : Instr) (q : Sought)
     where
       other : {s' : Thread} → refused n ≡ next s' → ⊥
       other {s'} y = let w : _≡_ {A = ℕ} 0 1 = cc in omega arith
+
+  -- too few stores are left
+  pub went-crowded : Trying c m s x → (b : Bool) → b ≡ ltb (storesFrom c (s .position)) (ones (s .promises)) → b ≡ true → Went c i m s x q p t p
+  went-crowded w b e z =
+      unchanged (λ s' d k a l r.
+      let f = comes-fit (aim-fits c i (q .hole) k) (by {m = m} {s = s} x t s' (w .is-next) (effect-time (effect x m t s s' d)) d r) in
+      let few = crowds (storesFrom c (s .position)) (ones (s .promises)) b e z in
+      omega arith) (p .grain) (missed .grained)
 
   -- it is in vain
   pub went-vain : Trying c m s x → p .first ≤ 16 → (g : ℕ) → Grain c s x g → Vain m s x g (p .first) t → Went c i m s x q p t (record { best = p .best; first = p .first; grain = g })

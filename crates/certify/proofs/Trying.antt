@@ -1,23 +1,50 @@
 -- What the code of certification relies on, on plain values: from which time on an instruction is worth a try, and what goes on holding of a thread.
 -- Assumes nothing.
-use mathlib.Core.Path.{_≡_, refl, sym, subst, _∙_}
+use mathlib.Core.Path.{_≡_, refl, sym, ap, subst, _∙_}
 use mathlib.Core.Logic.{⊎-elim}
-use mathlib.Core.Bool.{Bool, not, _&&_}
+use mathlib.Core.Bool.{Bool, false, not, _&&_}
 use Prim.Native.Nat.{ℕ, zero, suc, max, _+_, _-_, _^_, _≤_, _<_}
+use native.Mathlib.Decide.{decLt}
 use native.Mathlib.Omega.{arith}
 use lib.Dec.{T, eqb, leb, ltb, eqb→eq, lt→ltb, le→leb}
 use Rattle.views.specs.Views.{viewAt}
 use Rattle.source.proofs.Tests.{or-cases, and-right, and-both, eq→eqb, is-true, below-at}
 use Rattle.machine.specs.State.{messageAt, append, has}
-use Rattle.machine.specs.Rules.{next, newer, readable, noneNewer, execute, addPromise}
+use Rattle.machine.specs.Rules.{next, valueOf, address, newer, readable, noneNewer, execute, addPromise}
 use Rattle.machine.specs.Answers.{reach, storeMessage, ownStore}
-use Rattle.machine.proofs.Sets.{with-small, without-small, grown-small}
+use Rattle.machine.proofs.Sets.{has-positive, with-small, without-small, grown-small}
 use Rattle.machine.proofs.Cases.{reach-within}
 use Rattle.machine.proofs.Effects.{loadLocation, loadPreView, Effect, computed, loaded, stored, branched, fenced, effect, effect-time}
 use Rattle.certify.specs.Below.{Code, Operand, ComputeMode, LoadMode, StoreMode, FenceMode, Instr, Compute, Load, Store, Branch, Fence, Message, Memory, Thread}
 use Rattle.times.specs.Times.{After}
-use Rattle.certify.specs.Answers.{Ready, Trying, Earliest, Stands, NextMessage, Following}
+use Rattle.certify.specs.Answers.{Ready, Trying, Earliest, Stands, NextKept, NextMessage, Following}
 use Rattle.certify.proofs.Fit.{own-effect, own-leaves}
+
+-- ---- promises of a location and a value, one by one
+module _ (m : Memory) (p l v t : ℕ) where
+  pub kept-first : (r : ℕ) → After p t r → NextKept m p l v t r
+  kept-first r h = record { later = h .later; within = h .within; between = λ u lo hi um out at val. subst T (h .between u lo hi) out }
+
+  pub kept-next : (u r : ℕ) → NextKept m p l v t u → (w : Message) → w ≡ messageAt m u → (eqb (w .location) l && eqb (w .value) v) ≡ false → After p u r → NextKept m p l v t r
+  kept-next u r h w we other on =
+      let a = h .later in
+      let b = on .later in
+      record {
+        later = omega arith;
+        within = on .within;
+        between = λ j lo hi jm out at val. elim (decLt j u) [
+          | yes before ↦ h .between j lo before jm out at val
+          | no after ↦ elim (decLt u j) [
+            | yes past ↦ subst T (on .between j past hi) out
+            | no here ↦ (let here : messageAt m j ≡ w = ap (messageAt m) (omega arith) ∙ sym we in
+                subst T other (and-both (eqb (w .location) l) (eqb (w .value) v) (eq→eqb (ap (λ (y : Message). y .location) (sym here) ∙ at)) (eq→eqb (ap (λ (y : Message). y .value) (sym here) ∙ val))))
+          ]
+        ];
+      }
+
+  pub kept-none : (u : ℕ) → t ≤ 16 → NextKept m p l v t u → m .count < u → NextKept m p l v t 17
+  kept-none u low h over =
+      record { later = omega arith; within = omega arith; between = λ w lo hi wm. h .between w lo (omega arith) wm }
 
 -- ---- times worth a try
 module _ (m : Memory) (s : Thread) where
@@ -44,13 +71,21 @@ module _ (m : Memory) (s : Thread) where
       reads : (t : ℕ) (s' : Thread) → t < f → Effect m t s (Load k r a b) s' → ⊥
       reads t s' l (loaded d n) = hidden (loadLocation s a b) v t f h l (subst (λ (w : ℕ). T (noneNewer m (loadLocation s a b) t w)) (sym ve) n)
 
-  -- a store fulfils an outstanding promise
-  pub store-earliest : (k : StoreMode) (a d : Operand) (x : Instr) → x ≡ Store k a d → (f : ℕ) → f ≤ 17 → ((t : ℕ) → t < f → T (has (s .promises) t) → ⊥) → Earliest x m s f
-  store-earliest k a d x is f within none =
-      record { within = within; before = λ t s' l e. fulfils t s' l (effect (Store k a d) m t s s' (subst (λ (y : Instr). execute y m t s ≡ next s') is e)) }
-    where
-      fulfils : (t : ℕ) (s' : Thread) → t < f → Effect m t s (Store k a d) s' → ⊥
-      fulfils t s' l (stored p u v) = none t l (p .out)
+  -- a store fulfils an outstanding promise of its location and value
+  module _ (k : StoreMode) (a d : Operand) (x : Instr) (is : x ≡ Store k a d) (l v : ℕ) (le : l ≡ address (valueOf s a)) (ve : v ≡ valueOf s d) where
+    pub store-following : (t n : ℕ) → NextKept m (s .promises) l v t n → Following x m s t n
+    store-following t n h =
+        record { later = h .later; within = h .within; between = λ u s' lo hi e. fulfils u s' lo hi (effect (Store k a d) m u s s' (subst (λ (y : Instr). execute y m u s ≡ next s') is e)) }
+      where
+        fulfils : (u : ℕ) (s' : Thread) → t < u → u < n → Effect m u s (Store k a d) s' → ⊥
+        fulfils u s' lo hi (stored p pre low) = h .between u lo hi (p .in-memory) (p .out) (p .at-location ∙ sym le) (p .at-value ∙ sym ve)
+
+    pub store-earliest : (n : ℕ) → NextKept m (s .promises) l v 0 n → Earliest x m s n
+    store-earliest n h =
+        record { within = h .within; before = λ u s' hi e. fulfils u s' hi (effect (Store k a d) m u s s' (subst (λ (y : Instr). execute y m u s ≡ next s') is e)) }
+      where
+        fulfils : (u : ℕ) (s' : Thread) → u < n → Effect m u s (Store k a d) s' → ⊥
+        fulfils u s' hi (stored p pre low) = h .between u (has-positive (s .promises) u (p .out)) hi (p .in-memory) (p .out) (p .at-location ∙ sym le) (p .at-value ∙ sym ve)
 
   -- ---- the next time
   -- what can be read is a message to the location
@@ -66,13 +101,6 @@ module _ (m : Memory) (s : Thread) where
     where
       reads : (u : ℕ) (s' : Thread) → t < u → u < n → Effect m u s (Load k r a b) s' → ⊥
       reads u s' lo hi (loaded d q) = h .between u lo hi (effect-time (loaded {k = k} {r = r} {a = a} {b = b} d q)) (read-there (loadLocation s a b) u (omega arith) d ∙ sym le)
-
-  pub store-following : (k : StoreMode) (a d : Operand) (x : Instr) → x ≡ Store k a d → (t n : ℕ) → After (s .promises) t n → Following x m s t n
-  store-following k a d x is t n h =
-      record { later = h .later; within = h .within; between = λ u s' lo hi e. fulfils u s' lo hi (effect (Store k a d) m u s s' (subst (λ (y : Instr). execute y m u s ≡ next s') is e)) }
-    where
-      fulfils : (u : ℕ) (s' : Thread) → t < u → u < n → Effect m u s (Store k a d) s' → ⊥
-      fulfils u s' lo hi (stored p v w) = subst T (h .between u lo hi) (p .out)
 
   -- what is neither executes at time 0 only
   other-following : (x : Instr) → ((u : ℕ) (s' : Thread) → Effect m u s x s' → u ≡ 0) → (t : ℕ) → t ≤ 16 → Following x m s t 17

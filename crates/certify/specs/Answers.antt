@@ -4,11 +4,11 @@ use mathlib.Core.Path.{_≡_}
 use mathlib.Core.Bool.{cond, _&&_}
 use mathlib.Core.Option.{some}
 use Prim.Native.Nat.{ℕ, _^_, _≤_, _<_}
-use lib.Dec.{ltb}
+use lib.Dec.{T, ltb}
 use Rattle.source.specs.Program.{instrAt, codeOf}
 use Rattle.source.specs.WellFormed.{programTest}
 use Rattle.source.proofs.Formed.{CodeOk}
-use Rattle.machine.specs.State.{threadOf, messageAt}
+use Rattle.machine.specs.State.{threadOf, messageAt, has}
 use Rattle.machine.specs.Rules.{next, execute}
 use Rattle.machine.specs.WellFormed.{machineTest}
 use Rattle.certify.specs.Below.{Code, Program, Instr, Memory, Thread, Machine}
@@ -55,6 +55,12 @@ pub record NextMessage (m : Memory) (l t r : ℕ) : Type 0 where
   pub later : t < r
   pub within : r ≤ 17
   pub between : (u : ℕ) → t < u → u < r → u ≤ m .count → (messageAt m u) .location ≡ l → ⊥
+
+-- r is after t, and between them is no promise of the set p with location l and value v; 17 if none is left
+pub record NextKept (m : Memory) (p l v t r : ℕ) : Type 0 where
+  pub later : t < r
+  pub within : r ≤ 17
+  pub between : (u : ℕ) → t < u → u < r → u ≤ m .count → T (has p u) → (messageAt m u) .location ≡ l → (messageAt m u) .value ≡ v → ⊥
 
 -- r is after t, and between them the instruction cannot be executed; 17 if it cannot be later at all
 pub record Following (x : Instr) (m : Memory) (s : Thread) (t r : ℕ) : Type 0 where

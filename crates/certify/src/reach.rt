@@ -25,9 +25,11 @@ use machine::Thread;
 use machine::promises::has;
 use machine::promises::is_empty;
 use rules::execute;
+use rules::operands::view_of;
 use rules::own_store;
 use source::Code;
 use source::Instr;
+use stores::below_time;
 
 // After some tries of an instruction: the least number met; the first time at which the instruction executed, or 255; how much of what a
 // load leaves in its register matters, or 3 where nobody has asked.
@@ -99,15 +101,12 @@ pub fn least_reached(c: Code, i: u8, m: Memory, s: Thread, q: Sought) -> u16
     requires { ⌜ Ready c m s ⌝ }
     ensures { λ r. ⌜ Least (q .from) (q .best) (Meets c i m s (q .hole)) r ⌝ }
 {
-    let y = straight(c, m, s);
+    let y = straight(c, s);
     let now = kept(y, q);
     if now <= q.from {
         return now;
     }
     if c.count <= y.position {
-        return now;
-    }
-    if crowded(c, y.position, y) {
         return now;
     }
     let x = c.instr_at(y.position);
@@ -128,7 +127,7 @@ pub fn least_reached(c: Code, i: u8, m: Memory, s: Thread, q: Sought) -> u16
     own_reached(c, i, m, y, x, q.below(r.best))
 }
 
-// The number of a store that fills the hole, if there is one and it is sought.
+// The number of a store that fills the hole, if there is one and it is sought. Where the hole is the only promise, nothing is left to keep.
 fn filled(c: Code, i: u8, m: Memory, s: Thread, x: Instr, q: Sought) -> u16
     requires { ⌜ Trying c m s x ⌝ }
     ensures { λ r. ⌜ Least (q .from) (q .best) (λ k. Fills c i x (q .hole) k m s) r ⌝ }
@@ -137,17 +136,22 @@ fn filled(c: Code, i: u8, m: Memory, s: Thread, x: Instr, q: Sought) -> u16
         return q.best;
     }
     match x {
-        Instr::Store(_, a, d) => {
+        Instr::Store(k, a, d) => {
             let w = own_message(i, a, d, s);
             let number = lowered(256 * w.location as u16 + w.value as u16, q);
             if q.best <= number {
                 return q.best;
             }
-            if keeps(c, i, fill(m, q.hole, w), s, x, q.hole) {
-                number
-            } else {
-                q.best
+            if u16::count_ones(s.promises) == 1 {
+                if below_time(k, q.hole, w.location, view_of(s, a), view_of(s, d), s) {
+                    return number;
+                }
+                return q.best;
             }
+            if keeps(c, i, fill(m, q.hole, w), s, x, q.hole) {
+                return number;
+            }
+            q.best
         }
         Instr::Load(_, _, _, _) => q.best,
         Instr::Compute(_, _, _, _) => q.best,
@@ -217,6 +221,9 @@ fn try_again(
     requires { ⌜ Trying c m s x × ((p .first ≤ 16) × ((execute x m t s ≡ next y) × Missed c i m s x q p t)) ⌝ }
     ensures { λ r. ⌜ Went c i m s x q p t r ⌝ }
 {
+    if crowded(c, s.position, s) {
+        return p;
+    }
     let g = grain_of(c, s, x, p.grain);
     if in_vain(m, s, x, g, p.first, t) {
         return Tried {

@@ -1,10 +1,15 @@
 // The instructions that have one way to go on, taken at once: computes, branches and fences.
 ghost use mathlib.Core.Path.{_≡_};
+ghost use Rattle.source.proofs.Formed.{CodeOk};
+ghost use Rattle.certify.specs.Below.{Memory};
 ghost use Rattle.certify.specs.Answers.{Ready};
 ghost use Rattle.certify.specs.Sought.{isPlain, Straight};
-use machine::Memory;
 use machine::Thread;
-use rules::execute;
+use rules::operands::value_of;
+use rules::operands::view_of_both;
+use rules::plain::branch_done;
+use rules::plain::combine;
+use rules::plain::fence_done;
 use source::Code;
 use source::Instr;
 
@@ -21,19 +26,38 @@ fn is_plain(x: Instr) -> bool
     }
 }
 
-// The thread at its next load or store, or at its end.
-pub fn straight(c: Code, m: Memory, s: Thread) -> Thread
-    requires { ⌜ Ready c m s ⌝ }
-    ensures { λ r. ⌜ Straight c m s r ⌝ }
+// The thread at its next load or store, or at its end. One that is there already is not copied.
+pub fn straight(c: Code, s: Thread) -> Thread
+    requires { ⌜ CodeOk c ⌝ }
+    ensures { λ r. ⌜ ((m : Memory) → Ready c m s → Straight c m s r) ⌝ }
 {
+    if c.count <= s.position {
+        return s;
+    }
+    if !is_plain(c.instr_at(s.position)) {
+        return s;
+    }
     let mut y = s;
     while y.position < c.count {
         let x = c.instr_at(y.position);
-        if !is_plain(x) {
-            return y;
+        match x {
+            Instr::Compute(k, r, a, b) => {
+                let v = combine(k, value_of(y, a), value_of(y, b));
+                y = y.with_register(r, v, view_of_both(y, a, b)).advance(1);
+            }
+            Instr::Branch(n, a, b) => {
+                y = branch_done(n, a, b, y);
+            }
+            Instr::Fence(k) => {
+                y = fence_done(k, y);
+            }
+            Instr::Load(_, _, _, _) => {
+                return y;
+            }
+            Instr::Store(_, _, _) => {
+                return y;
+            }
         }
-        let r = execute(x, m, 0, y);
-        y = r.thread;
     }
     y
 }

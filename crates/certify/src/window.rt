@@ -1,13 +1,12 @@
 // The times at which an instruction is worth a try, one by one.
 ghost use Prim.Native.Nat.{_≤_};
-ghost use Rattle.certify.specs.Answers.{Earliest, Following, NextMessage, Stands};
+ghost use Rattle.certify.specs.Answers.{Earliest, Following, NextKept, NextMessage, Stands};
 use loads::load_pre;
 use machine::Memory;
 use machine::Thread;
 use machine::merge::larger;
 use machine::merge::smaller;
-use machine::promises::first;
-use machine::promises::is_empty;
+use rules::operands::address;
 use rules::operands::address_of_sum;
 use rules::operands::value_of;
 use rules::operands::view_of_both;
@@ -29,8 +28,24 @@ fn newest(m: Memory, l: u8, v: u8) -> u8
     0
 }
 
+// The next promise after time t of location l and value v, or 17.
+fn next_kept(m: Memory, p: u16, l: u8, v: u8, t: u8) -> u8
+    requires { ⌜ (m .count ≤ 16) × (t ≤ 16) ⌝ }
+    ensures { λ r. ⌜ NextKept m p l v t r ⌝ }
+{
+    let mut u = after(p, t);
+    while u <= m.count {
+        let w = m.message_at(u);
+        if (w.location == l) & (w.value == v) {
+            return u;
+        }
+        u = after(p, u);
+    }
+    17
+}
+
 // The first time at which the instruction is worth a try, or 17. A load reads nothing older than the newest message that its views have
-// come up to; a store fulfils a promise.
+// come up to; a store fulfils a promise of its location and value.
 pub fn earliest(x: Instr, m: Memory, s: Thread) -> u8
     requires { ⌜ m .count ≤ 16 ⌝ }
     ensures { λ r. ⌜ Earliest x m s r ⌝ }
@@ -41,11 +56,9 @@ pub fn earliest(x: Instr, m: Memory, s: Thread) -> u8
             let pre = load_pre(k, view_of_both(s, a, b), s.views);
             newest(m, l, larger(pre, s.coherence_at(l)))
         }
-        Instr::Store(_, _, _) => {
-            if is_empty(s.promises) {
-                return 17;
-            }
-            first(s.promises)
+        Instr::Store(_, a, d) => {
+            let l = address(value_of(s, a));
+            next_kept(m, s.promises, l, value_of(s, d), 0)
         }
         Instr::Compute(_, _, _, _) => 0,
         Instr::Branch(_, _, _) => 0,
@@ -79,7 +92,10 @@ pub fn following(x: Instr, m: Memory, s: Thread, t: u8) -> u8
             address_of_sum(value_of(s, a), value_of(s, b)),
             t,
         ),
-        Instr::Store(_, _, _) => after(s.promises, t),
+        Instr::Store(_, a, d) => {
+            let l = address(value_of(s, a));
+            next_kept(m, s.promises, l, value_of(s, d), t)
+        }
         Instr::Compute(_, _, _, _) => 17,
         Instr::Branch(_, _, _) => 17,
         Instr::Fence(_) => 17,

@@ -1,10 +1,14 @@
 -- The cycle of `certify::reach::least_reached` meets its contracts: each instruction moves the position on.
 -- Assumes nothing.
-use mathlib.Core.Path.{refl}
 use mathlib.Core.Logic.{inl, inr}
+use mathlib.Core.Path.{_≡_, refl}
 use Prim.Native.Nat.{ℕ, _+_, _-_, _*_, _≤_, _<_}
+use native.Mathlib.Nat.{mod-lt}
 use native.Mathlib.Omega.{arith}
+use lib.Dec.{lit<}
+use lib.ListN.{length}
 use borrow.Author.Needs.{needs}
+use Rattle.source.proofs.Arrays.{length-mapped}
 use borrow.Fn.Kinds.{In}
 use Rattle.machine.proofs.Cases.{ruled-done}
 use Rattle.machine.proofs.Effects.{effect, effect-time}
@@ -12,7 +16,7 @@ use Rattle.certify.specs.Sought.{Better, Meets, Missed}
 use Rattle.certify.proofs.Trying.{ready-after, ready-own, reach-byte}
 use Rattle.certify.proofs.Tries.{grain-other, next-within}
 use Rattle.certify.proofs.Plain.{straight-least}
-use Rattle.certify.proofs.Reaching.{least-empty, fill-no-hole, fill-none, fill-unsought, fill-here, fill-fails, hole-time, trying-filled, keeps-refused, keeps-done, certified-empty, found-certified, reach-now, reach-end, reach-crowded, reach-found, reach-all, missed-none, missed-next, better-on, better-same, went-refused, went-vain, went-on, owns-none, owns-full, owns-crowded, owns-stuck, owns-goes, further-by, further-own}
+use Rattle.certify.proofs.Reaching.{least-empty, fill-no-hole, fill-none, fill-unsought, fill-here, fill-fails, fill-alone, hole-time, trying-filled, keeps-refused, keeps-done, certified-empty, found-certified, reach-now, reach-end, reach-found, reach-all, missed-none, missed-next, better-on, better-same, went-refused, went-crowded, went-vain, went-on, owns-none, owns-full, owns-crowded, owns-stuck, owns-goes, further-by, further-own}
 use borrow.Fn.PlainCycle.{Measures, is, falls, and}
 use Rattle.certify.proofs.reach.filled.Reads as filled
 use Rattle.certify.proofs.reach.filled.Kinds as filled-kinds
@@ -48,8 +52,10 @@ use Rattle.machine.proofs.Memory.append.Reads as append-reads
 use Rattle.machine.proofs.promises.has.Reads as has-reads
 use Rattle.machine.proofs.promises.is_empty.Reads as is-empty-reads
 use Rattle.rules.proofs.execute.Reads as execute-reads
+use Rattle.rules.proofs.operands.view_of.Reads as view-of-reads
 use Rattle.rules.proofs.own_store.Reads as own-store-reads
 use Rattle.source.proofs.Code.instr_at.Reads as instr-at-reads
+use Rattle.stores.proofs.below_time.Reads as below-time-reads
 use Rattle.certify.proofs.reach.+filled+keeps+least_reached+own_reached+try_again+try_at.{
   statement,
 }
@@ -121,22 +127,25 @@ abbrev try-at-below : ℕ → In 0 try-at-kinds.ps
 try-at-below t = and 0 try-at-kinds.ps (falls 0 try-at-kinds.ps _<_ μ-try-at t) try-at.Pre
 
 abbrev filled-claims : ℕ → filled-lts.Claims
-filled-claims t = (has-reads.Asked, has-reads.Learnt, own-message-reads.Asked, own-message-reads.Learnt, lowered-reads.Asked, lowered-reads.Learnt, fill-reads.Asked, fill-reads.Learnt, keeps-below t, keeps.Post)
+filled-claims t = (has-reads.Asked, has-reads.Learnt, own-message-reads.Asked, own-message-reads.Learnt, lowered-reads.Asked, lowered-reads.Learnt, view-of-reads.Asked, view-of-reads.Learnt, below-time-reads.Asked, below-time-reads.Learnt, fill-reads.Asked, fill-reads.Learnt, keeps-below t, keeps.Post)
 
 abbrev keeps-claims : ℕ → keeps-lts.Claims
 keeps-claims t = (execute-reads.Asked, execute-reads.Learnt, is-empty-reads.Asked, is-empty-reads.Learnt, certified-reads.Asked, certified-reads.Learnt, least-reached-below t, least-reached.Post)
 
 abbrev least-reached-claims : ℕ → least-reached-lts.Claims
-least-reached-claims t = (straight-reads.Asked, straight-reads.Learnt, kept-reads.Asked, kept-reads.Learnt, crowded-reads.Asked, crowded-reads.Learnt, instr-at-reads.Asked, instr-at-reads.Learnt, below-reads.Asked, below-reads.Learnt, filled-below t, filled.Post, earliest-reads.Asked, earliest-reads.Learnt, try-at-below t, try-at.Post, following-reads.Asked, following-reads.Learnt, own-reached-below t, own-reached.Post)
+least-reached-claims t = (straight-reads.Asked, straight-reads.Learnt, kept-reads.Asked, kept-reads.Learnt, instr-at-reads.Asked, instr-at-reads.Learnt, below-reads.Asked, below-reads.Learnt, filled-below t, filled.Post, earliest-reads.Asked, earliest-reads.Learnt, try-at-below t, try-at.Post, following-reads.Asked, following-reads.Learnt, own-reached-below t, own-reached.Post)
 
 abbrev own-reached-claims : ℕ → own-reached-lts.Claims
 own-reached-claims t = (crowded-reads.Asked, crowded-reads.Learnt, own-store-reads.Asked, own-store-reads.Learnt, own-message-reads.Asked, own-message-reads.Learnt, append-reads.Asked, append-reads.Learnt, least-reached-below t, least-reached.Post)
 
 abbrev try-again-claims : ℕ → try-again-lts.Claims
-try-again-claims t = (grain-of-reads.Asked, grain-of-reads.Learnt, in-vain-reads.Asked, in-vain-reads.Learnt, below-reads.Asked, below-reads.Learnt, least-reached-below t, least-reached.Post)
+try-again-claims t = (crowded-reads.Asked, crowded-reads.Learnt, grain-of-reads.Asked, grain-of-reads.Learnt, in-vain-reads.Asked, in-vain-reads.Learnt, below-reads.Asked, below-reads.Learnt, least-reached-below t, least-reached.Post)
 
 abbrev try-at-claims : ℕ → try-at-lts.Claims
 try-at-claims t = (execute-reads.Asked, execute-reads.Learnt, below-reads.Asked, below-reads.Learnt, kept-reads.Asked, kept-reads.Learnt, try-again-below t, try-again.Post, least-reached-below t, least-reached.Post)
+
+places : (t : ℕ) (c : filled-lts.Start (filled-claims t) (filled-at t) filled.Post) → length (c .args .m .messages) ≡ 16
+places t c = search length-mapped depth 7
 
 filled-has-requires : (t : ℕ) → filled-lts.Need-has-requires (filled-claims t) (filled-at t) filled.Post
 filled-has-requires t c κs = search needs
@@ -168,11 +177,29 @@ filled-lowered-requires t c κs = search needs
 filled-returns-2 : (t : ℕ) → filled-lts.Need-returns-2 (filled-claims t) (filled-at t) filled.Post
 filled-returns-2 t c = fill-unsought _ _ _ _ _ _ _ _ _ _ _ (c .before .before .before .before .before .before .before .x .given .1) _ (c .before .before .before .before .before .own-message .ensures) _ (c .before .before .lowered .ensures) (c .if2 .taken)
 
+filled-view-of-requires : (t : ℕ) → filled-lts.Need-view-of-requires (filled-claims t) (filled-at t) filled.Post
+filled-view-of-requires t c κs = search needs
+
+filled-view-of-requires-2 : (t : ℕ) → filled-lts.Need-view-of-requires-2 (filled-claims t) (filled-at t) filled.Post
+filled-view-of-requires-2 t c κs = search needs
+
+filled-below-time-requires : (t : ℕ) → filled-lts.Need-below-time-requires (filled-claims t) (filled-at t) filled.Post
+filled-below-time-requires t c κs = rw (c .before .before .before .before .before .before .before .before .before .own-message .ensures) (mod-lt _ (lit< tt))
+
+filled-returns-3 : (t : ℕ) → filled-lts.Need-returns-3 (filled-claims t) (filled-at t) filled.Post
+filled-returns-3 t c = fill-here _ _ _ _ _ _ _ _ _ _ _ (c .before .before .before .before .before .before .before .before .before .before .before .before .before .x .given .1) _ (c .before .before .before .before .before .before .before .before .before .before .before .own-message .ensures) _ (c .before .before .before .before .before .before .before .before .lowered .ensures) _ refl _ (fill-alone (c .before .before .before .before .before .before .before .before .before .before .before .before .before .before .before .before .before .args .c) _ (c .before .before .before .before .before .before .before .before .before .before .before .before .before .before .before .before .before .args .m) _ _ _ _ _ _ (c .before .before .before .before .before .before .before .before .before .before .before .own-message .ensures) (c .before .before .before .before .before .before .before .before .before .before .before .before .before .before .before .before .before .pre .1 .ready .promises-in) (c .before .before .before .before .before .before .before .before .before .before .before .before .before .before .before .before .before .pre .1 .ready .room) (places t (c .before .before .before .before .before .before .before .before .before .before .before .before .before .before .before .before .before)) _ (c .before .before .before .before .before .before .before .before .before .before .before .before .before .before .before .before .has .ensures) (c .before .before .before .before .before .before .before .before .before .before .before .before .before .before .before .if1 .left) (c .before .before .before .before .if3 .taken) _ (rw (c .before .before .before .view-of .ensures, c .before .before .view-of2 .ensures) at (c .before .below-time .ensures))) (c .if4 .taken)
+
+filled-returns-4 : (t : ℕ) → filled-lts.Need-returns-4 (filled-claims t) (filled-at t) filled.Post
+filled-returns-4 t c = fill-fails _ _ _ _ _ _ _ _ _ _ _ (c .before .before .before .before .before .before .before .before .before .before .before .before .before .x .given .1) _ (c .before .before .before .before .before .before .before .before .before .before .before .own-message .ensures) _ (c .before .before .before .before .before .before .before .before .lowered .ensures) _ refl _ (fill-alone (c .before .before .before .before .before .before .before .before .before .before .before .before .before .before .before .before .before .args .c) _ (c .before .before .before .before .before .before .before .before .before .before .before .before .before .before .before .before .before .args .m) _ _ _ _ _ _ (c .before .before .before .before .before .before .before .before .before .before .before .own-message .ensures) (c .before .before .before .before .before .before .before .before .before .before .before .before .before .before .before .before .before .pre .1 .ready .promises-in) (c .before .before .before .before .before .before .before .before .before .before .before .before .before .before .before .before .before .pre .1 .ready .room) (places t (c .before .before .before .before .before .before .before .before .before .before .before .before .before .before .before .before .before)) _ (c .before .before .before .before .before .before .before .before .before .before .before .before .before .before .before .before .has .ensures) (c .before .before .before .before .before .before .before .before .before .before .before .before .before .before .before .if1 .left) (c .before .before .before .before .if3 .taken) _ (rw (c .before .before .before .view-of .ensures, c .before .before .view-of2 .ensures) at (c .before .below-time .ensures))) (c .if4 .left)
+
 filled-fill-requires : (t : ℕ) → filled-lts.Need-fill-requires (filled-claims t) (filled-at t) filled.Post
-filled-fill-requires t c κs = hole-time _ _ _ _ (c .before .before .before .before .before .before .before .before .before .before .before .pre .1) _ _ (c .before .before .before .before .before .before .before .before .before .before .has .ensures) (c .before .before .before .before .before .before .before .before .before .if1 .left)
+filled-fill-requires t c κs = hole-time _ _ _ _ (c .before .before .before .before .before .before .before .before .before .before .before .before .before .pre .1) _ _ (c .before .before .before .before .before .before .before .before .before .before .before .before .has .ensures) (c .before .before .before .before .before .before .before .before .before .before .before .if1 .left)
 
 filled-keeps-requires : (t : ℕ) → filled-lts.Need-keeps-requires (filled-claims t) (filled-at t) filled.Post
-filled-keeps-requires t c κs = (omega (arith, c .before .before .before .before .before .before .before .before .before .before .before .before .pre .0), trying-filled _ _ (c .before .before .before .before .before .before .before .before .before .before .before .before .pre .1) (c .fill .ensures) (c .before .before .before .before .before .before .before .before .x .given .1))
+filled-keeps-requires t c κs = (omega (arith, c .before .before .before .before .before .before .before .before .before .before .before .before .before .before .pre .0), trying-filled _ _ (c .before .before .before .before .before .before .before .before .before .before .before .before .before .before .pre .1) (c .fill .ensures) (c .before .before .before .before .before .before .before .before .before .before .x .given .1))
+
+filled-returns-5 : (t : ℕ) → filled-lts.Need-returns-5 (filled-claims t) (filled-at t) filled.Post
+filled-returns-5 t c = fill-here _ _ _ _ _ _ _ _ _ _ _ (c .before .before .before .before .before .before .before .before .before .before .before .before .x .given .1) _ (c .before .before .before .before .before .before .before .before .before .before .own-message .ensures) _ (c .before .before .before .before .before .before .before .lowered .ensures) _ (c .before .before .fill .ensures) _ (c .before .keeps .ensures) (c .if5 .taken)
 
 filled-enum-told : (t : ℕ) → filled-lts.Need-enum-told (filled-claims t) (filled-at t) filled.Post
 filled-enum-told t c = search needs
@@ -186,23 +213,20 @@ filled-enum-told-3 t c = search needs
 filled-enum-told-4 : (t : ℕ) → filled-lts.Need-enum-told-4 (filled-claims t) (filled-at t) filled.Post
 filled-enum-told-4 t c = search needs
 
-filled-returns-3 : (t : ℕ) → filled-lts.Need-returns-3 (filled-claims t) (filled-at t) filled.Post
-filled-returns-3 t c = fill-here _ _ _ _ _ _ _ _ _ _ _ (c .before .before .before .before .before .before .before .before .before .before .x .given .1) _ (c .before .before .before .before .before .before .before .before .own-message .ensures) _ (c .before .before .before .before .before .lowered .ensures) _ (c .before .before .fill .ensures) _ (c .before .keeps .ensures) (c .if3 .taken)
-
-filled-returns-4 : (t : ℕ) → filled-lts.Need-returns-4 (filled-claims t) (filled-at t) filled.Post
-filled-returns-4 t c = fill-fails _ _ _ _ _ _ _ _ _ _ _ (c .before .before .before .before .before .before .before .before .before .before .x .given .1) _ (c .before .before .before .before .before .before .before .before .own-message .ensures) _ (c .before .before .before .before .before .lowered .ensures) _ (c .before .before .fill .ensures) _ (c .before .keeps .ensures) (c .if3 .left)
-
-filled-returns-5 : (t : ℕ) → filled-lts.Need-returns-5 (filled-claims t) (filled-at t) filled.Post
-filled-returns-5 t c = fill-none _ _ _ _ _ _ _ _ (rw (c .enum-told .given .1))
-
 filled-returns-6 : (t : ℕ) → filled-lts.Need-returns-6 (filled-claims t) (filled-at t) filled.Post
-filled-returns-6 t c = fill-none _ _ _ _ _ _ _ _ (rw (c .enum-told2 .given .1))
+filled-returns-6 t c = fill-fails _ _ _ _ _ _ _ _ _ _ _ (c .before .before .before .before .before .before .before .before .before .before .before .before .x .given .1) _ (c .before .before .before .before .before .before .before .before .before .before .own-message .ensures) _ (c .before .before .before .before .before .before .before .lowered .ensures) _ (c .before .before .fill .ensures) _ (c .before .keeps .ensures) (c .if5 .left)
 
 filled-returns-7 : (t : ℕ) → filled-lts.Need-returns-7 (filled-claims t) (filled-at t) filled.Post
-filled-returns-7 t c = fill-none _ _ _ _ _ _ _ _ (rw (c .enum-told3 .given .1))
+filled-returns-7 t c = fill-none _ _ _ _ _ _ _ _ (rw (c .enum-told .given .1))
 
 filled-returns-8 : (t : ℕ) → filled-lts.Need-returns-8 (filled-claims t) (filled-at t) filled.Post
-filled-returns-8 t c = fill-none _ _ _ _ _ _ _ _ (rw (c .enum-told4 .given .1))
+filled-returns-8 t c = fill-none _ _ _ _ _ _ _ _ (rw (c .enum-told2 .given .1))
+
+filled-returns-9 : (t : ℕ) → filled-lts.Need-returns-9 (filled-claims t) (filled-at t) filled.Post
+filled-returns-9 t c = fill-none _ _ _ _ _ _ _ _ (rw (c .enum-told3 .given .1))
+
+filled-returns-10 : (t : ℕ) → filled-lts.Need-returns-10 (filled-claims t) (filled-at t) filled.Post
+filled-returns-10 t c = fill-none _ _ _ _ _ _ _ _ (rw (c .enum-told4 .given .1))
 
 keeps-execute-requires : (t : ℕ) → keeps-lts.Need-execute-requires (keeps-claims t) (keeps-at t) keeps.Post
 keeps-execute-requires t c κs = let w = c .pre .1 in (reach-byte _ _ _ _ w, w .ready .room)
@@ -238,46 +262,40 @@ abbrev least-reached-μ-loop : least-reached-lts.MeasureT-loop
 least-reached-μ-loop c i m q y now x here t₀ r₀ t r = 17 - t
 
 least-reached-straight-requires : (t : ℕ) → least-reached-lts.Need-straight-requires (least-reached-claims t) (least-reached-at t) least-reached.Post least-reached-Inv-loop least-reached-μ-loop
-least-reached-straight-requires t c κs = c .pre .1
+least-reached-straight-requires t c κs = c .pre .1 .code-ok
 
 least-reached-kept-requires : (t : ℕ) → least-reached-lts.Need-kept-requires (least-reached-claims t) (least-reached-at t) least-reached.Post least-reached-Inv-loop least-reached-μ-loop
 least-reached-kept-requires t c κs = search needs
 
 least-reached-returns : (t : ℕ) → least-reached-lts.Need-returns (least-reached-claims t) (least-reached-at t) least-reached.Post least-reached-Inv-loop least-reached-μ-loop
-least-reached-returns t c = straight-least _ _ _ _ _ (c .before .before .before .straight .ensures) _ _ _ _ (reach-now _ _ _ _ _ _ (c .before .before .kept .ensures) (c .if1 .taken))
+least-reached-returns t c = straight-least _ _ _ _ _ (c .before .before .before .straight .ensures _ (c .before .before .before .before .pre .1)) _ _ _ _ (reach-now _ _ _ _ _ _ (c .before .before .kept .ensures) (c .if1 .taken))
 
 least-reached-returns-2 : (t : ℕ) → least-reached-lts.Need-returns-2 (least-reached-claims t) (least-reached-at t) least-reached.Post least-reached-Inv-loop least-reached-μ-loop
-least-reached-returns-2 t c = straight-least _ _ _ _ _ (c .before .before .before .before .before .before .straight .ensures) _ _ _ _ (reach-end _ _ _ _ _ _ (c .before .before .before .before .before .kept .ensures) (c .if2 .taken))
-
-least-reached-crowded-requires : (t : ℕ) → least-reached-lts.Need-crowded-requires (least-reached-claims t) (least-reached-at t) least-reached.Post least-reached-Inv-loop least-reached-μ-loop
-least-reached-crowded-requires t c κs = c .before .before .before .before .before .before .before .pre .1 .code-ok .short
-
-least-reached-returns-3 : (t : ℕ) → least-reached-lts.Need-returns-3 (least-reached-claims t) (least-reached-at t) least-reached.Post least-reached-Inv-loop least-reached-μ-loop
-least-reached-returns-3 t c = straight-least _ _ _ _ _ (c .before .before .before .before .before .before .before .before .straight .ensures) _ _ _ _ (reach-crowded _ _ _ _ _ _ (c .before .before .before .before .before .before .before .kept .ensures) _ (c .before .crowded .ensures) (c .if3 .taken))
+least-reached-returns-2 t c = straight-least _ _ _ _ _ (c .before .before .before .before .before .before .straight .ensures _ (c .before .before .before .before .before .before .before .pre .1)) _ _ _ _ (reach-end _ _ _ _ _ _ (c .before .before .before .before .before .kept .ensures) (c .if2 .taken))
 
 least-reached-instr-at-requires : (t : ℕ) → least-reached-lts.Need-instr-at-requires (least-reached-claims t) (least-reached-at t) least-reached.Post least-reached-Inv-loop least-reached-μ-loop
-least-reached-instr-at-requires t c κs = let h = c .before .before .before .before .before .before .before .before .before .pre .1 .code-ok .short in let l = c .before .before .if2 .left in (omega arith, l)
+least-reached-instr-at-requires t c κs = let h = c .before .before .before .before .before .before .before .pre .1 .code-ok .short in let l = c .if2 .left in (omega arith, l)
 
 least-reached-below-requires : (t : ℕ) → least-reached-lts.Need-below-requires (least-reached-claims t) (least-reached-at t) least-reached.Post least-reached-Inv-loop least-reached-μ-loop
 least-reached-below-requires t c κs = search needs
 
 least-reached-filled-requires : (t : ℕ) → least-reached-lts.Need-filled-requires (least-reached-claims t) (least-reached-at t) least-reached.Post least-reached-Inv-loop least-reached-μ-loop
-least-reached-filled-requires t c κs = let f = c .before .before .before .before .before .before .before .before .before .before .straight .ensures .further in (omega (arith, c .before .before .before .before .before .before .before .before .before .before .before .pre .0), record { ready = c .before .before .before .before .before .before .before .before .before .before .straight .ensures .ready; is-next = c .before .instr-at .ensures })
+least-reached-filled-requires t c κs = let f = (c .before .before .before .before .before .before .before .before .straight .ensures _ (c .before .before .before .before .before .before .before .before .before .pre .1)) .further in (omega (arith, c .before .before .before .before .before .before .before .before .before .pre .0), record { ready = (c .before .before .before .before .before .before .before .before .straight .ensures _ (c .before .before .before .before .before .before .before .before .before .pre .1)) .ready; is-next = c .before .instr-at .ensures })
 
 least-reached-earliest-requires : (t : ℕ) → least-reached-lts.Need-earliest-requires (least-reached-claims t) (least-reached-at t) least-reached.Post least-reached-Inv-loop least-reached-μ-loop
-least-reached-earliest-requires t c κs = c .before .before .before .before .before .before .before .before .before .before .before .before .pre .1 .room
+least-reached-earliest-requires t c κs = c .before .before .before .before .before .before .before .before .before .before .pre .1 .room
 
 least-reached-loop-holds : (t : ℕ) → least-reached-lts.Need-loop-holds (least-reached-claims t) (least-reached-at t) least-reached.Post least-reached-Inv-loop least-reached-μ-loop
 least-reached-loop-holds t c = (missed-none _ _ _ _ _ _ _ _ (c .earliest .ensures), (better-same _ _ _, c .earliest .ensures .within))
 
 least-reached-try-at-requires : (t : ℕ) → least-reached-lts.Need-try-at-requires (least-reached-claims t) (least-reached-at t) least-reached.Post least-reached-Inv-loop least-reached-μ-loop
-least-reached-try-at-requires t c κs = let f = c .before .before .before .before .before .before .before .before .before .before .before .before .before .before .straight .ensures .further in (omega (arith, c .before .before .before .before .before .before .before .before .before .before .before .before .before .before .before .pre .0), (record { ready = c .before .before .before .before .before .before .before .before .before .before .before .before .before .before .straight .ensures .ready; is-next = c .before .before .before .before .before .instr-at .ensures }, (c .loop-test .taken, c .before .loop .inv .0)))
+least-reached-try-at-requires t c κs = let f = (c .before .before .before .before .before .before .before .before .before .before .before .before .straight .ensures _ (c .before .before .before .before .before .before .before .before .before .before .before .before .before .pre .1)) .further in (omega (arith, c .before .before .before .before .before .before .before .before .before .before .before .before .before .pre .0), (record { ready = (c .before .before .before .before .before .before .before .before .before .before .before .before .straight .ensures _ (c .before .before .before .before .before .before .before .before .before .before .before .before .before .pre .1)) .ready; is-next = c .before .before .before .before .before .instr-at .ensures }, (c .loop-test .taken, c .before .loop .inv .0)))
 
-least-reached-returns-4 : (t : ℕ) → least-reached-lts.Need-returns-4 (least-reached-claims t) (least-reached-at t) least-reached.Post least-reached-Inv-loop least-reached-μ-loop
-least-reached-returns-4 t c = straight-least _ _ _ _ _ (c .before .before .before .before .before .before .before .before .before .before .before .before .before .before .before .before .before .before .straight .ensures) _ _ _ _ (reach-found _ _ _ _ _ _ (c .before .before .before .before .before .before .before .before .before .before .before .before .before .before .before .before .before .kept .ensures) _ (c .before .before .before .before .before .before .before .before .before .instr-at .ensures) _ (rw (c .before .before .before .before .before .before .before .before .below .ensures) at (c .before .before .before .before .before .before .before .filled .ensures)) _ (better-on (c .before .before .before .before .before .loop .inv .1 .0) (c .before .before .before .try-at .ensures .better)) (c .if4 .taken))
+least-reached-returns-3 : (t : ℕ) → least-reached-lts.Need-returns-3 (least-reached-claims t) (least-reached-at t) least-reached.Post least-reached-Inv-loop least-reached-μ-loop
+least-reached-returns-3 t c = straight-least _ _ _ _ _ (c .before .before .before .before .before .before .before .before .before .before .before .before .before .before .before .before .straight .ensures _ (c .before .before .before .before .before .before .before .before .before .before .before .before .before .before .before .before .before .pre .1)) _ _ _ _ (reach-found _ _ _ _ _ _ (c .before .before .before .before .before .before .before .before .before .before .before .before .before .before .before .kept .ensures) _ (c .before .before .before .before .before .before .before .before .before .instr-at .ensures) _ (rw (c .before .before .before .before .before .before .before .before .below .ensures) at (c .before .before .before .before .before .before .before .filled .ensures)) _ (better-on (c .before .before .before .before .before .loop .inv .1 .0) (c .before .before .before .try-at .ensures .better)) (c .if3 .taken))
 
 least-reached-following-requires : (t : ℕ) → least-reached-lts.Need-following-requires (least-reached-claims t) (least-reached-at t) least-reached.Post least-reached-Inv-loop least-reached-μ-loop
-least-reached-following-requires t c κs = (c .before .before .before .before .before .before .before .before .before .before .before .before .before .before .before .before .before .before .before .pre .1 .room, c .before .before .before .before .loop-test .taken)
+least-reached-following-requires t c κs = (c .before .before .before .before .before .before .before .before .before .before .before .before .before .before .before .before .before .pre .1 .room, c .before .before .before .before .loop-test .taken)
 
 least-reached-loop-less : (t : ℕ) → least-reached-lts.Need-loop-less (least-reached-claims t) (least-reached-at t) least-reached.Post least-reached-Inv-loop least-reached-μ-loop
 least-reached-loop-less t c = let l = c .before .before .before .before .before .loop-test .taken in let k = c .following .ensures .later in omega arith
@@ -289,10 +307,10 @@ least-reached-below-requires-2 : (t : ℕ) → least-reached-lts.Need-below-requ
 least-reached-below-requires-2 t c κs = search needs
 
 least-reached-own-reached-requires : (t : ℕ) → least-reached-lts.Need-own-reached-requires (least-reached-claims t) (least-reached-at t) least-reached.Post least-reached-Inv-loop least-reached-μ-loop
-least-reached-own-reached-requires t c κs = let f = c .before .before .before .before .before .before .before .before .before .before .before .before .before .before .before .straight .ensures .further in (omega (arith, c .before .before .before .before .before .before .before .before .before .before .before .before .before .before .before .before .pre .0), record { ready = c .before .before .before .before .before .before .before .before .before .before .before .before .before .before .before .straight .ensures .ready; is-next = c .before .before .before .before .before .before .instr-at .ensures })
+least-reached-own-reached-requires t c κs = let f = (c .before .before .before .before .before .before .before .before .before .before .before .before .before .straight .ensures _ (c .before .before .before .before .before .before .before .before .before .before .before .before .before .before .pre .1)) .further in (omega (arith, c .before .before .before .before .before .before .before .before .before .before .before .before .before .before .pre .0), record { ready = (c .before .before .before .before .before .before .before .before .before .before .before .before .before .straight .ensures _ (c .before .before .before .before .before .before .before .before .before .before .before .before .before .before .pre .1)) .ready; is-next = c .before .before .before .before .before .before .instr-at .ensures })
 
-least-reached-returns-5 : (t : ℕ) → least-reached-lts.Need-returns-5 (least-reached-claims t) (least-reached-at t) least-reached.Post least-reached-Inv-loop least-reached-μ-loop
-least-reached-returns-5 t c = straight-least _ _ _ _ _ (c .before .before .before .before .before .before .before .before .before .before .before .before .before .before .before .before .straight .ensures) _ _ _ _ (reach-all _ _ _ _ _ _ (c .before .before .before .before .before .before .before .before .before .before .before .before .before .before .before .kept .ensures) _ (c .before .before .before .before .before .before .before .instr-at .ensures) _ (rw (c .before .before .before .before .before .before .below .ensures) at (c .before .before .before .before .before .filled .ensures)) (c .before .before .before .before .before .before .before .before .before .before .before .before .before .before .before .before .before .pre .1 .room) _ _ (c .before .before .before .loop .inv .1 .0) (c .before .before .before .loop .inv .0) (c .before .before .loop-test .left) _ (rw (c .before .below2 .ensures) at (c .own-reached .ensures)))
+least-reached-returns-4 : (t : ℕ) → least-reached-lts.Need-returns-4 (least-reached-claims t) (least-reached-at t) least-reached.Post least-reached-Inv-loop least-reached-μ-loop
+least-reached-returns-4 t c = straight-least _ _ _ _ _ (c .before .before .before .before .before .before .before .before .before .before .before .before .before .before .straight .ensures _ (c .before .before .before .before .before .before .before .before .before .before .before .before .before .before .before .pre .1)) _ _ _ _ (reach-all _ _ _ _ _ _ (c .before .before .before .before .before .before .before .before .before .before .before .before .before .kept .ensures) _ (c .before .before .before .before .before .before .before .instr-at .ensures) _ (rw (c .before .before .before .before .before .before .below .ensures) at (c .before .before .before .before .before .filled .ensures)) (c .before .before .before .before .before .before .before .before .before .before .before .before .before .before .before .pre .1 .room) _ _ (c .before .before .before .loop .inv .1 .0) (c .before .before .before .loop .inv .0) (c .before .before .loop-test .left) _ (rw (c .before .below2 .ensures) at (c .own-reached .ensures)))
 
 own-reached-returns : (t : ℕ) → own-reached-lts.Need-returns (own-reached-claims t) (own-reached-at t) own-reached.Post
 own-reached-returns t c = least-empty _ _ _ (c .if1 .taken)
@@ -360,23 +378,29 @@ own-reached-returns-8 t c = owns-none _ _ _ _ _ _ (rw (c .enum-told5 .given .1))
 own-reached-returns-9 : (t : ℕ) → own-reached-lts.Need-returns-9 (own-reached-claims t) (own-reached-at t) own-reached.Post
 own-reached-returns-9 t c = owns-none _ _ _ _ _ _ (rw (c .enum-told6 .given .1))
 
-try-again-grain-of-requires : (t : ℕ) → try-again-lts.Need-grain-of-requires (try-again-claims t) (try-again-at t) try-again.Post
-try-again-grain-of-requires t c κs = let w = c .pre .1 .0 in (w .ready .code-ok, (next-within _ _ _ _ w, c .pre .1 .1 .1 .1 .grained))
-
-try-again-in-vain-requires : (t : ℕ) → try-again-lts.Need-in-vain-requires (try-again-claims t) (try-again-at t) try-again.Post
-try-again-in-vain-requires t c κs = (c .before .pre .1 .0 .ready .room, effect-time (effect _ _ _ _ _ (c .before .pre .1 .1 .1 .0)))
+try-again-crowded-requires : (t : ℕ) → try-again-lts.Need-crowded-requires (try-again-claims t) (try-again-at t) try-again.Post
+try-again-crowded-requires t c κs = c .pre .1 .0 .ready .code-ok .short
 
 try-again-returns : (t : ℕ) → try-again-lts.Need-returns (try-again-claims t) (try-again-at t) try-again.Post
-try-again-returns t c = went-vain _ _ _ _ _ _ _ _ (c .before .before .before .pre .1 .1 .1 .1) (c .before .before .before .pre .1 .0) (c .before .before .before .pre .1 .1 .0) _ (c .before .before .grain-of .ensures) (c .before .in-vain .ensures (c .if1 .taken))
+try-again-returns t c = went-crowded _ _ _ _ _ _ _ _ (c .before .before .pre .1 .1 .1 .1) (c .before .before .pre .1 .0) _ (c .before .crowded .ensures) (c .if1 .taken)
+
+try-again-grain-of-requires : (t : ℕ) → try-again-lts.Need-grain-of-requires (try-again-claims t) (try-again-at t) try-again.Post
+try-again-grain-of-requires t c κs = let w = c .before .before .pre .1 .0 in (w .ready .code-ok, (next-within _ _ _ _ w, c .before .before .pre .1 .1 .1 .1 .grained))
+
+try-again-in-vain-requires : (t : ℕ) → try-again-lts.Need-in-vain-requires (try-again-claims t) (try-again-at t) try-again.Post
+try-again-in-vain-requires t c κs = (c .before .before .before .pre .1 .0 .ready .room, effect-time (effect _ _ _ _ _ (c .before .before .before .pre .1 .1 .1 .0)))
+
+try-again-returns-2 : (t : ℕ) → try-again-lts.Need-returns-2 (try-again-claims t) (try-again-at t) try-again.Post
+try-again-returns-2 t c = went-vain _ _ _ _ _ _ _ _ (c .before .before .before .before .before .pre .1 .1 .1 .1) (c .before .before .before .before .before .pre .1 .0) (c .before .before .before .before .before .pre .1 .1 .0) _ (c .before .before .grain-of .ensures) (c .before .in-vain .ensures (c .if2 .taken))
 
 try-again-below-requires : (t : ℕ) → try-again-lts.Need-below-requires (try-again-claims t) (try-again-at t) try-again.Post
 try-again-below-requires t c κs = search needs
 
 try-again-least-reached-requires : (t : ℕ) → try-again-lts.Need-least-reached-requires (try-again-claims t) (try-again-at t) try-again.Post
-try-again-least-reached-requires t c κs = let f = further-by _ _ _ _ (c .before .before .before .before .pre .1 .0) _ _ (c .before .before .before .before .pre .1 .1 .1 .0) in (omega (arith, c .before .before .before .before .pre .0), ready-after (c .before .before .before .before .pre .1 .0 .ready) (effect _ _ _ _ _ (c .before .before .before .before .pre .1 .1 .1 .0)))
+try-again-least-reached-requires t c κs = let f = further-by _ _ _ _ (c .before .before .before .before .before .before .pre .1 .0) _ _ (c .before .before .before .before .before .before .pre .1 .1 .1 .0) in (omega (arith, c .before .before .before .before .before .before .pre .0), ready-after (c .before .before .before .before .before .before .pre .1 .0 .ready) (effect _ _ _ _ _ (c .before .before .before .before .before .before .pre .1 .1 .1 .0)))
 
-try-again-returns-2 : (t : ℕ) → try-again-lts.Need-returns-2 (try-again-claims t) (try-again-at t) try-again.Post
-try-again-returns-2 t c = went-on _ _ _ _ _ _ _ _ (c .before .before .before .before .before .pre .1 .1 .1 .1) (c .before .before .before .before .before .pre .1 .0) _ (c .before .before .before .before .before .pre .1 .1 .1 .0) _ (rw (c .before .below .ensures) at (c .least-reached .ensures)) _ (inr refl) _ (c .before .before .before .before .grain-of .ensures)
+try-again-returns-3 : (t : ℕ) → try-again-lts.Need-returns-3 (try-again-claims t) (try-again-at t) try-again.Post
+try-again-returns-3 t c = went-on _ _ _ _ _ _ _ _ (c .before .before .before .before .before .before .before .pre .1 .1 .1 .1) (c .before .before .before .before .before .before .before .pre .1 .0) _ (c .before .before .before .before .before .before .before .pre .1 .1 .1 .0) _ (rw (c .before .below .ensures) at (c .least-reached .ensures)) _ (inr refl) _ (c .before .before .before .before .grain-of .ensures)
 
 try-at-execute-requires : (t : ℕ) → try-at-lts.Need-execute-requires (try-at-claims t) (try-at-at t) try-at.Post
 try-at-execute-requires t c κs = let w = c .pre .1 .0 in (reach-byte _ _ _ _ w, w .ready .room)
@@ -435,18 +459,23 @@ pub +filled+keeps+least-reached+own-reached+try-again+try-at-spec : {M : Type 1}
     (filled-add-lowered t)
     (filled-lowered-requires t)
     (filled-returns-2 t)
+    (filled-view-of-requires t)
+    (filled-view-of-requires-2 t)
+    (filled-below-time-requires t)
+    (filled-returns-3 t)
+    (filled-returns-4 t)
     (filled-fill-requires t)
     (filled-keeps-requires t)
+    (filled-returns-5 t)
     (filled-enum-told t)
     (filled-enum-told-2 t)
     (filled-enum-told-3 t)
     (filled-enum-told-4 t)
-    (filled-returns-3 t)
-    (filled-returns-4 t)
-    (filled-returns-5 t)
     (filled-returns-6 t)
     (filled-returns-7 t)
-    (filled-returns-8 t))
+    (filled-returns-8 t)
+    (filled-returns-9 t)
+    (filled-returns-10 t))
     (λ t. keeps-lts.spec (keeps-claims t) (keeps-at t)
     keeps.Post
     (keeps-execute-requires t)
@@ -466,21 +495,19 @@ pub +filled+keeps+least-reached+own-reached+try-again+try-at-spec : {M : Type 1}
     (least-reached-kept-requires t)
     (least-reached-returns t)
     (least-reached-returns-2 t)
-    (least-reached-crowded-requires t)
-    (least-reached-returns-3 t)
     (least-reached-instr-at-requires t)
     (least-reached-below-requires t)
     (least-reached-filled-requires t)
     (least-reached-earliest-requires t)
     (least-reached-loop-holds t)
     (least-reached-try-at-requires t)
-    (least-reached-returns-4 t)
+    (least-reached-returns-3 t)
     (least-reached-following-requires t)
     (least-reached-loop-less t)
     (least-reached-loop-again t)
     (least-reached-below-requires-2 t)
     (least-reached-own-reached-requires t)
-    (least-reached-returns-5 t))
+    (least-reached-returns-4 t))
     (λ t. own-reached-lts.spec (own-reached-claims t) (own-reached-at t)
     own-reached.Post
     (own-reached-returns t)
@@ -507,12 +534,14 @@ pub +filled+keeps+least-reached+own-reached+try-again+try-at-spec : {M : Type 1}
     (own-reached-returns-9 t))
     (λ t. try-again-lts.spec (try-again-claims t) (try-again-at t)
     try-again.Post
+    (try-again-crowded-requires t)
+    (try-again-returns t)
     (try-again-grain-of-requires t)
     (try-again-in-vain-requires t)
-    (try-again-returns t)
+    (try-again-returns-2 t)
     (try-again-below-requires t)
     (try-again-least-reached-requires t)
-    (try-again-returns-2 t))
+    (try-again-returns-3 t))
     λ t. try-at-lts.spec (try-at-claims t) (try-at-at t)
     try-at.Post
     (try-at-execute-requires t)

@@ -1,10 +1,6 @@
 -- `certify::window::earliest` meets its contract.
 -- Assumes nothing.
-use mathlib.Core.Path.{sym, subst, _∙_}
 use native.Mathlib.Omega.{arith}
-use lib.Dec.{T}
-use borrow.Author.Tests.{eqb-true, eqb-false}
-use Rattle.machine.proofs.Sets.{has-none}
 use Rattle.certify.proofs.Trying.{load-earliest, store-earliest}
 use borrow.Author.Needs.{needs}
 use Rattle.certify.proofs.window.earliest.Statement.{statement}
@@ -37,17 +33,23 @@ larger-requires c κs = search needs
 newest-requires : tie.Need-newest-requires
 newest-requires c κs = search needs
 
+enum-known-x-2 : tie.Need-enum-known-x-2
+enum-known-x-2 c = search needs
+
+value-of-requires-3 : tie.Need-value-of-requires-3
+value-of-requires-3 c κs = search needs
+
+address-requires : tie.Need-address-requires
+address-requires c κs = search needs
+
+value-of-requires-4 : tie.Need-value-of-requires-4
+value-of-requires-4 c κs = search needs
+
+next-kept-requires : tie.Need-next-kept-requires
+next-kept-requires c κs = search needs
+
 enum-told : tie.Need-enum-told
 enum-told c = search needs
-
-is-empty-requires : tie.Need-is-empty-requires
-is-empty-requires c κs = search needs
-
-returns : tie.Need-returns
-returns c = store-earliest _ _ _ _ _ _ (c .before .before .enum-told .given .1) _ (omega arith) (λ t l z. has-none _ t (eqb-true _ _ (sym (c .before .is-empty .ensures) ∙ c .if1 .taken)) z)
-
-first-requires : tie.Need-first-requires
-first-requires c κs = eqb-false _ _ (sym (c .before .is-empty .ensures) ∙ c .if1 .left)
 
 enum-told-2 : tie.Need-enum-told-2
 enum-told-2 c = search needs
@@ -55,23 +57,20 @@ enum-told-2 c = search needs
 enum-told-3 : tie.Need-enum-told-3
 enum-told-3 c = search needs
 
-enum-told-4 : tie.Need-enum-told-4
-enum-told-4 c = search needs
+returns : tie.Need-returns
+returns c = load-earliest _ _ (c .before .before .before .before .before .before .before .before .before .before .before .pre) _ _ _ _ _ (c .before .before .before .before .before .before .before .before .before .x .given .1) _ _ (rw (c .before .larger .ensures, c .before .before .before .load-pre .ensures, c .before .before .before .before .view-of-both .ensures, c .before .before .coherence-at .ensures, (rw (c .before .before .before .before .before .before .before .value-of .ensures, c .before .before .before .before .before .before .value-of2 .ensures) at (c .before .before .before .before .before .address-of-sum .ensures .0)))) (rw (rw (c .before .before .before .before .before .before .before .value-of .ensures, c .before .before .before .before .before .before .value-of2 .ensures) at (c .before .before .before .before .before .address-of-sum .ensures .0)) at (c .newest .ensures))
 
 returns-2 : tie.Need-returns-2
-returns-2 c = load-earliest _ _ (c .before .before .before .before .before .before .before .before .before .before .before .pre) _ _ _ _ _ (c .before .before .before .before .before .before .before .before .before .x .given .1) _ _ (rw (c .before .larger .ensures, c .before .before .before .load-pre .ensures, c .before .before .before .before .view-of-both .ensures, c .before .before .coherence-at .ensures, (rw (c .before .before .before .before .before .before .before .value-of .ensures, c .before .before .before .before .before .before .value-of2 .ensures) at (c .before .before .before .before .before .address-of-sum .ensures .0)))) (rw (rw (c .before .before .before .before .before .before .before .value-of .ensures, c .before .before .before .before .before .before .value-of2 .ensures) at (c .before .before .before .before .before .address-of-sum .ensures .0)) at (c .newest .ensures))
+returns-2 c = store-earliest _ _ _ _ _ _ (c .before .before .before .before .before .x2 .given .1) _ _ (rw (c .before .before .before .value-of3 .ensures) at (c .before .before .address .ensures .0)) (c .before .value-of4 .ensures) _ (c .next-kept .ensures)
 
 returns-3 : tie.Need-returns-3
-returns-3 c = store-earliest _ _ _ _ _ _ (c .before .before .before .enum-told .given .1) _ (let h = c .first .ensures .within in omega arith) (λ t l z. subst T (c .first .ensures .before t l) z)
+returns-3 c = search needs
 
 returns-4 : tie.Need-returns-4
 returns-4 c = search needs
 
 returns-5 : tie.Need-returns-5
 returns-5 c = search needs
-
-returns-6 : tie.Need-returns-6
-returns-6 c = search needs
 
 pub earliest-spec : {M : Type 1} → statement M
 earliest-spec =
@@ -86,15 +85,16 @@ earliest-spec =
     coherence-at-requires
     larger-requires
     newest-requires
+    enum-known-x-2
+    value-of-requires-3
+    address-requires
+    value-of-requires-4
+    next-kept-requires
     enum-told
-    is-empty-requires
-    returns
-    first-requires
     enum-told-2
     enum-told-3
-    enum-told-4
+    returns
     returns-2
     returns-3
     returns-4
-    returns-5
-    returns-6)
+    returns-5)

@@ -18,13 +18,25 @@ address-of-sum-requires : tie.Need-address-of-sum-requires
 address-of-sum-requires c κs = search needs
 
 next-message-requires : tie.Need-next-message-requires
-next-message-requires c κs = c .before .before .before .before .before .before .pre
+next-message-requires c κs = search needs
+
+enum-known-x-2 : tie.Need-enum-known-x-2
+enum-known-x-2 c = search needs
+
+value-of-requires-3 : tie.Need-value-of-requires-3
+value-of-requires-3 c κs = search needs
+
+address-requires : tie.Need-address-requires
+address-requires c κs = search needs
+
+value-of-requires-4 : tie.Need-value-of-requires-4
+value-of-requires-4 c κs = search needs
+
+next-kept-requires : tie.Need-next-kept-requires
+next-kept-requires c κs = search needs
 
 enum-told : tie.Need-enum-told
 enum-told c = search needs
-
-after-requires : tie.Need-after-requires
-after-requires c κs = c .before .before .pre .1
 
 enum-told-2 : tie.Need-enum-told-2
 enum-told-2 c = search needs
@@ -32,23 +44,20 @@ enum-told-2 c = search needs
 enum-told-3 : tie.Need-enum-told-3
 enum-told-3 c = search needs
 
-enum-told-4 : tie.Need-enum-told-4
-enum-told-4 c = search needs
-
 returns : tie.Need-returns
 returns c = load-following _ _ _ _ _ _ _ (c .before .before .before .before .before .x .given .1) _ (rw (c .before .before .before .value-of .ensures, c .before .before .value-of2 .ensures) at (c .before .address-of-sum .ensures .0)) _ _ (c .next-message .ensures)
 
 returns-2 : tie.Need-returns-2
-returns-2 c = store-following _ _ _ _ _ _ (c .before .enum-told .given .1) _ _ (c .after .ensures)
+returns-2 c = store-following _ _ _ _ _ _ (c .before .before .before .before .before .x2 .given .1) _ _ (rw (c .before .before .before .value-of3 .ensures) at (c .before .before .address .ensures .0)) (c .before .value-of4 .ensures) _ _ (c .next-kept .ensures)
 
 returns-3 : tie.Need-returns-3
-returns-3 c = compute-following _ _ _ _ _ _ _ (c .enum-told2 .given .1) _ (c .before .before .pre .1)
+returns-3 c = compute-following _ _ _ _ _ _ _ (c .enum-told .given .1) _ (c .before .before .pre .1)
 
 returns-4 : tie.Need-returns-4
-returns-4 c = branch-following _ _ _ _ _ _ (c .enum-told3 .given .1) _ (c .before .before .pre .1)
+returns-4 c = branch-following _ _ _ _ _ _ (c .enum-told2 .given .1) _ (c .before .before .pre .1)
 
 returns-5 : tie.Need-returns-5
-returns-5 c = fence-following _ _ _ _ (c .enum-told4 .given .1) _ (c .before .before .pre .1)
+returns-5 c = fence-following _ _ _ _ (c .enum-told3 .given .1) _ (c .before .before .pre .1)
 
 pub following-spec : {M : Type 1} → statement M
 following-spec =
@@ -59,11 +68,14 @@ following-spec =
     value-of-requires-2
     address-of-sum-requires
     next-message-requires
+    enum-known-x-2
+    value-of-requires-3
+    address-requires
+    value-of-requires-4
+    next-kept-requires
     enum-told
-    after-requires
     enum-told-2
     enum-told-3
-    enum-told-4
     returns
     returns-2
     returns-3
