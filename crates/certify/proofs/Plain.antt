@@ -2,7 +2,7 @@
 -- Assumes nothing.
 use mathlib.Core.Path.{_≡_, refl, sym, ap, subst, subst₂, _∙_}
 use mathlib.Core.Logic.{inl, inr}
-use mathlib.Core.Option.{some}
+use mathlib.Core.Option.{some, Option·some-injective}
 use Prim.Native.Nat.{ℕ, _<_}
 use native.Mathlib.Nat.{le-refl}
 use native.Mathlib.Omega.{arith}
@@ -19,9 +19,6 @@ use Rattle.certify.specs.Sought.{Least, Meets, isPlain, Straight}
 use Rattle.certify.proofs.Executes.{executes}
 use Rattle.certify.proofs.Trying.{ready-after}
 use Rattle.certify.proofs.Reaching.{least-as}
-
-some-same : (x y : Instr) → some x ≡ some y → x ≡ y
-some-same x y e = cc
 
 -- ---- one plain instruction
 -- it leaves the same at whatever time, and the promises as they were
@@ -54,11 +51,11 @@ module _ (c : Code) (m : Memory) (y y' : Thread) (x : Instr) (g : instrAt c (y .
   plain-back : (i h k : ℕ) → Meets c i m y h k → Meets c i m y' h k
   unfolding isPlain
   plain-back i h k (done (inl z)) = done (inl (z .0, plain-promises p f ∙ z .1))
-  plain-back i h k (done (inr (x', g', w))) = absurd (plain-silent x p i y (w .message) (ap (messageOf i y) (some-same x x' (sym g ∙ g')) ∙ w .is-own))
+  plain-back i h k (done (inr (x', g', w))) = absurd (plain-silent x p i y (w .message) (ap (messageOf i y) (Option·some-injective x x' (sym g ∙ g')) ∙ w .is-own))
   plain-back i h k (by x' t s' g' tl e w) =
-      let e' = subst (λ (v : Instr). execute v m t y ≡ next s') (sym (some-same x x' (sym g ∙ g'))) e in
+      let e' = subst (λ (v : Instr). execute v m t y ≡ next s') (sym (Option·some-injective x x' (sym g ∙ g'))) e in
       subst (λ (v : Thread). Meets c i m v h k) (plain-same p f (effect x m t y s' e')) w
-  plain-back i h k (own x' w s' g' gw room e rest) = absurd (plain-silent x p i y w (ap (messageOf i y) (some-same x x' (sym g ∙ g')) ∙ gw))
+  plain-back i h k (own x' w s' g' gw room e rest) = absurd (plain-silent x p i y w (ap (messageOf i y) (Option·some-injective x x' (sym g ∙ g')) ∙ gw))
 
   plain-there : (i h k : ℕ) → Meets c i m y' h k → Meets c i m y h k
   plain-there i h k w = by {m = m} {s = y} x 0 y' g (omega arith) (executes f) w

@@ -1,9 +1,9 @@
 -- What the search of runs relies on, on plain values.
 -- Assumes nothing.
-use mathlib.Core.Path.{_≡_, refl, sym, ap, ap₂, _∙_, subst, subst₂}
+use mathlib.Core.Path.{_≡_, refl, sym, ap, _∙_, subst}
 use mathlib.Core.Logic.{_⊎_, inl, inr, ⊎-elim}
 use mathlib.Core.Bool.{Bool, true, false, not, _&&_}
-use mathlib.Core.Option.{none, some}
+use mathlib.Core.Option.{none, some, Option·some-injective}
 use Prim.Native.Nat.{ℕ, suc, _+_, _-_, _*_, _^_, _≤_, _<_}
 use native.Mathlib.Nat.{le-refl}
 use native.Mathlib.Decide.{decLt}
@@ -25,7 +25,7 @@ use Rattle.machine.specs.declared.Ruled.{Ruled}
 use Rattle.machine.proofs.Sets.{has-positive, has-time, ones-none, ones-without}
 use Rattle.machine.proofs.Words.{ones-eqb}
 use Rattle.machine.proofs.Cases.{was-true, ruled-done, ruled-refused}
-use Rattle.machine.proofs.Effects.{loadLocation, loadPostView, storeLocation, Promised, Effect, computed, loaded, stored, branched, fenced, effect, effect-time, moves}
+use Rattle.machine.proofs.Effects.{loadLocation, loadPostView, storeLocation, Promised, Effect, computed, loaded, stored, branched, fenced, next-same, effect, effect-time, moves}
 use Rattle.certify.specs.Below.{Code, Operand, StoreMode, Instr, Load, Store, Message, Memory, Thread}
 use Rattle.certify.specs.Certify.{messageOf, onward, certified}
 use Rattle.certify.specs.Answers.{Trying, Earliest, Following}
@@ -37,16 +37,6 @@ use Rattle.certify.proofs.Iff.{onward-inv, onward-next, certified-iff, 
 use Rattle.certify.proofs.Executes.{executes}
 use Rattle.certify.proofs.Fit.{takes, no-message, own-effect, own-leaves, comes-fit, promises-fit}
 use Rattle.certify.proofs.Alike.{Alike, follows, same-message, comes-alike, monotone, later-done, in-vain}
-
--- ---- constructors
-some-same : (x y : Instr) → some x ≡ some y → x ≡ y
-some-same x y e = cc
-
-message-same : {x y : Message} → some x ≡ some y → x ≡ y
-message-same {x} {y} e = cc
-
-next-same : {s s' : Thread} → next s ≡ next s' → s ≡ s'
-next-same {s} {s'} e = cc
 
 not-both : (b : Bool) → T b → not b ≡ true → ⊥
 not-both true t z = subst T (sym z) tt
@@ -131,7 +121,7 @@ module _ (c : Code) (i : ℕ) (x : Instr) (h : ℕ) (m : Memory) (s : Thread) (f
   -- the one store, by the number that is sought
   module _ (k : StoreMode) (a d : Operand) (is : x ≡ Store k a d) (w : Message) (we : w ≡ storeMessage i a d s) (r : ℕ) (l : Least from best (λ j. 256 * w .location + w .value ≡ j) r) where
     fill-message : (j : ℕ) (f : Fills c i x h j m s) → f .message ≡ w
-    fill-message j f = message-same (sym (f .is-own) ∙ ap (messageOf i s) is) ∙ sym we
+    fill-message j f = Option·some-injective _ _ (sym (f .is-own) ∙ ap (messageOf i s) is) ∙ sym we
 
     fill-number : (j : ℕ) → Fills c i x h j m s → 256 * w .location + w .value ≡ j
     fill-number j f = subst (λ (y : Message). 256 * y .location + y .value ≡ j) (fill-message j f) (f .number)
@@ -300,7 +290,7 @@ module _ (c : Code) (i : ℕ) (m : Memory) (s : Thread) (q : Sought) (now : ℕ)
   -- ---- its instruction x
   module _ (x : Instr) (is-next : instrAt c (s .position) ≡ some x) (here : ℕ) (fills : Least (q .from) now (λ k. Fills c i x (q .hole) k m s) here) where
     same-next : (y : Instr) → instrAt c (s .position) ≡ some y → x ≡ y
-    same-next y g = some-same x y (sym is-next ∙ g)
+    same-next y g = Option·some-injective x y (sym is-next ∙ g)
 
     fills-meets : Better (q .from) now (Meets c i m s (q .hole)) here
     fills-meets = record { low = fills .better .low; hit = λ h. let z = fills .better .hit h in (z .0, done (inr (x, is-next, z .1))) }
@@ -450,7 +440,7 @@ module _ (c : Code) (i : ℕ) (m : Memory) (s : Thread) (x : Instr) (q : Sought)
     own-same : (n : ℕ) (w : Owns c i m s x (q .hole) n) → (w .message ≡ storeMessage i a d s) × (ownStore k a d m i s ≡ next (w .after))
     unfolding ownStore
     own-same n w =
-        let y : storeMessage i a d s ≡ w .message = message-same (subst (λ (z : Instr). messageOf i s z ≡ some (w .message)) is (w .is-own)) in (
+        let y : storeMessage i a d s ≡ w .message = Option·some-injective _ _ (subst (λ (z : Instr). messageOf i s z ≡ some (w .message)) is (w .is-own)) in (
           sym y,
           subst (λ (z : Message). execute (Store k a d) (append m z) ((append m z) .count) (addPromise (append m z) s) ≡ next (w .after)) (sym y)
               (subst (λ (z : Instr). execute z (append m (w .message)) ((append m (w .message)) .count) (addPromise (append m (w .message)) s) ≡ next (w .after)) is (w .does)),

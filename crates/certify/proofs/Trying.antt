@@ -1,20 +1,19 @@
 -- What the code of certification relies on, on plain values: from which time on an instruction is worth a try, and what goes on holding of a thread.
 -- Assumes nothing.
 use mathlib.Core.Path.{_≡_, refl, sym, ap, subst, _∙_}
-use mathlib.Core.Logic.{⊎-elim}
 use mathlib.Core.Bool.{Bool, false, not, _&&_}
 use Prim.Native.Nat.{ℕ, zero, suc, max, _+_, _-_, _^_, _≤_, _<_}
 use native.Mathlib.Decide.{decLt}
 use native.Mathlib.Omega.{arith}
-use lib.Dec.{T, eqb, leb, ltb, eqb→eq, lt→ltb, le→leb}
+use lib.Dec.{T, eqb, leb, ltb, lt→ltb, le→leb}
 use Rattle.views.specs.Views.{viewAt}
-use Rattle.source.proofs.Tests.{or-cases, and-right, and-both, eq→eqb, is-true, below-at}
-use Rattle.machine.specs.State.{messageAt, append, has}
-use Rattle.machine.specs.Rules.{next, valueOf, address, newer, readable, noneNewer, execute, addPromise}
+use Rattle.source.proofs.Tests.{and-both, eq→eqb, is-true, below-at}
+use Rattle.machine.specs.State.{messageAt, append}
+use Rattle.machine.specs.Rules.{next, valueOf, address, newer, noneNewer, execute, addPromise}
 use Rattle.machine.specs.Answers.{reach, storeMessage, ownStore}
 use Rattle.machine.proofs.Sets.{has-positive, with-small, without-small, grown-small}
 use Rattle.machine.proofs.Cases.{reach-within}
-use Rattle.machine.proofs.Effects.{loadLocation, loadPreView, Effect, computed, loaded, stored, branched, fenced, effect, effect-time}
+use Rattle.machine.proofs.Effects.{loadLocation, loadPreView, Effect, computed, loaded, stored, branched, fenced, effect, effect-time, read-there}
 use Rattle.certify.specs.Below.{Code, Operand, ComputeMode, LoadMode, StoreMode, FenceMode, Instr, Compute, Load, Store, Branch, Fence, Message, Memory, Thread}
 use Rattle.times.specs.Times.{After}
 use Rattle.certify.specs.Answers.{Ready, Trying, Earliest, Stands, NextKept, NextMessage, Following}
@@ -88,19 +87,12 @@ module _ (m : Memory) (s : Thread) where
         fulfils u s' hi (stored p pre low) = h .between u (has-positive (s .promises) u (p .out)) hi (p .in-memory) (p .out) (p .at-location ∙ sym le) (p .at-value ∙ sym ve)
 
   -- ---- the next time
-  -- what can be read is a message to the location
-  read-there : (l t : ℕ) → 0 < t → T (readable m l t) → (messageAt m t) .location ≡ l
-  unfolding readable
-  read-there l t h r =
-      ⊎-elim (λ z. let e = eqb→eq t 0 z in absurd (omega arith)) (λ w. eqb→eq ((messageAt m t) .location) l (and-right (leb t (m .count)) (eqb ((messageAt m t) .location) l) w))
-      (or-cases (eqb t 0) (leb t (m .count) && eqb ((messageAt m t) .location) l) r)
-
   pub load-following : (k : LoadMode) (r : ℕ) (a b : Operand) (x : Instr) → x ≡ Load k r a b → (l : ℕ) → l ≡ loadLocation s a b → (t n : ℕ) → NextMessage m l t n → Following x m s t n
   load-following k r a b x is l le t n h =
       record { later = h .later; within = h .within; between = λ u s' lo hi e. reads u s' lo hi (effect (Load k r a b) m u s s' (subst (λ (y : Instr). execute y m u s ≡ next s') is e)) }
     where
       reads : (u : ℕ) (s' : Thread) → t < u → u < n → Effect m u s (Load k r a b) s' → ⊥
-      reads u s' lo hi (loaded d q) = h .between u lo hi (effect-time (loaded {k = k} {r = r} {a = a} {b = b} d q)) (read-there (loadLocation s a b) u (omega arith) d ∙ sym le)
+      reads u s' lo hi (loaded d q) = h .between u lo hi (effect-time (loaded {k = k} {r = r} {a = a} {b = b} d q)) (read-there m (loadLocation s a b) u (omega arith) d ∙ sym le)
 
   -- what is neither executes at time 0 only
   other-following : (x : Instr) → ((u : ℕ) (s' : Thread) → Effect m u s x s' → u ≡ 0) → (t : ℕ) → t ≤ 16 → Following x m s t 17

@@ -8,19 +8,19 @@ use Prim.Native.Nat.{ℕ, zero, suc, _+_, _*_, _-_, _≤_, _<_}
 use native.Mathlib.Nat.{le-trans, le-max-right, mod-lt}
 use native.Mathlib.Decide.{ℕ-discrete}
 use native.Mathlib.Omega.{arith}
-use lib.Dec.{T, eqb, leb, ltb, eqb→eq, lit<}
+use lib.Dec.{T, eqb, leb, ltb, lit<}
 use lib.ListN.{length, getD, set, length-set}
 use lib.Seq.{getD-set-same, getD-set-other}
 use borrow.Author.Tests.{ne-eqb}
 use Rattle.views.specs.Views.{viewAt, raiseAt}
 use Rattle.views.proofs.Entries.{set-all, set-both}
 use Rattle.views.proofs.Merging.{length-raise, raise-reaches}
-use Rattle.source.proofs.Tests.{or-cases, and-right, below-at, below-all}
+use Rattle.source.proofs.Tests.{below-at, below-all}
 use Rattle.machine.specs.State.{noMessage, messageAt, append, has, with, freshForward, withRegister, raiseCoherence, withViews, withPromises}
 use Rattle.machine.specs.Rules.{next, valueOf, viewOf₂, address, advance, newer, readable, noneNewer, readValue, readView, loadViews, execute, addPromise}
 use Rattle.machine.proofs.Sets.{has-positive, has-none, has-without, has-with, with-without}
 use Rattle.machine.proofs.Memories.{message-stays, message-new}
-use Rattle.machine.proofs.Effects.{loadLocation, loadPostView, Promised, Effect, computed, loaded, stored, branched, fenced, effect}
+use Rattle.machine.proofs.Effects.{loadLocation, loadPostView, Promised, Effect, computed, loaded, stored, branched, fenced, effect, read-there}
 use Rattle.certify.specs.Below.{Code, Operand, LoadMode, Instr, Compute, Load, Store, Branch, Fence, Message, Memory, Forward, Thread}
 use Rattle.certify.specs.Certify.{messageOf, certified}
 use Rattle.certify.specs.Runs.{done, by, own, Certifying}
@@ -203,14 +203,6 @@ module _ (h k : ℕ) (m : Memory) (s : Thread) (d : Open h k m s) where
         no-forward = set-all (λ (z : Forward). z .time ≢ h) freshForward _ (s .forward) _ (d .no-forward) (λ q. omega (arith, low));
       }
 
-  -- what is read at time h is at its location
-  read-there : (l : ℕ) → T (readable m l h) → (messageAt m h) .location ≡ l
-  unfolding readable
-  read-there l r =
-      ⊎-elim (λ z. let e = eqb→eq h 0 z in let p = positive in absurd (omega arith))
-      (λ w. eqb→eq ((messageAt m h) .location) l (and-right (leb h (m .count)) (eqb ((messageAt m h) .location) l) w))
-      (or-cases (eqb h 0) (leb h (m .count) && eqb ((messageAt m h) .location) l) r)
-
   -- a load of it raises the coherence view up to it
   read-high : (o : LoadMode) (a b : Operand) → (messageAt m h) .location ≡ loadLocation s a b
       → h ≤ viewAt (raiseAt (s .coherence) (loadLocation s a b) (loadPostView o s a b h)) ((messageAt m h) .location)
@@ -224,7 +216,7 @@ module _ (h k : ℕ) (m : Memory) (s : Thread) (d : Open h k m s) where
   -- an instruction at time h, after which the thread is certified, fills the hole on the other memory: one that reads the promise would put it out of reach
   at-hole : {c : Code} {i : ℕ} {m' : Memory} → Same h m m' → {x : Instr} {s' : Thread} → Effect m h s x s' → Certifying c i m s' → Fills c 0 x h k m' s
   at-hole q (computed e) r = let p = positive in absurd (omega arith)
-  at-hole q (loaded {k = o} {r = n} {a} {b} rd low) r = absurd (dead-ends (record { in-memory = d .in-memory; out = d .out; high = read-high o a b (read-there _ rd) }) r)
+  at-hole q (loaded {k = o} {r = n} {a} {b} rd low) r = absurd (dead-ends (record { in-memory = d .in-memory; out = d .out; high = read-high o a b (read-there m _ h positive rd) }) r)
   at-hole {c} {i} {m'} q {s' = s'} (stored {k = o} {a} {d = b} p pre low) r =
       let w : Message = record { location = address (valueOf s a); value = valueOf s b; thread = 0 } in
       let x = Store o a b in

@@ -4,7 +4,7 @@ use mathlib.Core.Path.{_≡_, refl, sym, subst, _∙_}
 use mathlib.Core.Logic.{_⊎_, inl, inr, ⊎-elim}
 use mathlib.Core.Bool.{Bool, true, false, not, cond}
 use mathlib.Core.List.{List}
-use mathlib.Core.Option.{some}
+use mathlib.Core.Option.{some, Option·some-injective}
 use Prim.Native.Nat.{ℕ, max, _+_, _≤_, _<_}
 use native.Mathlib.Nat.{le-refl, le-max-right}
 use native.Mathlib.Decide.{ℕ-discrete, decLt}
@@ -26,9 +26,6 @@ use Rattle.source.proofs.Counts.{there}
 use Rattle.source.proofs.Formed.{CodeOk}
 use Rattle.live.specs.Live.{isRegister, eitherRegister, locates, weighs, reads, writes, skips, Live, here, later, through}
 use Rattle.live.specs.Marks.{markAt, least, Idle, markOf, markOf₂, resultMark, wakes, written, marksAfter}
-
-some-same : (x y : Instr) → some x ≡ some y → x ≡ y
-some-same x y e = cc
 
 -- ---- marks
 module _ (marks : List ℕ) (k : ℕ) where
@@ -140,13 +137,13 @@ module _ (c : Code) (marks : List ℕ) (n end : ℕ) where
 
     idle-here : (v : Bool) (k : ℕ) → least v ≤ markAt marks k → Live c v k n → ⊥
     unfolding least
-    idle-here v k m (here z g' t) = subst T asleep (read-wakes marks k x v m (subst (λ (i : Instr). T (reads v k i)) (some-same z x (sym g' ∙ g)) t))
+    idle-here v k m (here z g' t) = subst T asleep (read-wakes marks k x v m (subst (λ (i : Instr). T (reads v k i)) (Option·some-injective z x (sym g' ∙ g)) t))
     idle-here v k m (later z n' g' w f r) =
-        let e = some-same z x (sym g' ∙ g) in
+        let e = Option·some-injective z x (sym g' ∙ g) in
         let m' : least v ≤ markAt (marksAfter sure marks x) k = subst (λ (i : ℕ). least v ≤ i) (sym (mark-kept marks k sure x (subst (λ (i : Instr). T (writes k i) → ⊥) e w))) m in
         ⊎-elim (λ a. onward n' (omega arith) (inl a) v k m' r) (λ b. onward n' (omega arith) (inr (omega arith)) v k m' r) (subst (λ (i : Instr). (n' ≡ n + 1) ⊎ (n' ≡ n + (skips i + 1))) e f)
     idle-here true k m (through {v} o r a b g' t q) =
-        let e = some-same (Compute o r a b) x (sym g' ∙ g) in
+        let e = Option·some-injective (Compute o r a b) x (sym g' ∙ g) in
         let two = subst (λ (i : Instr). 2 ≤ markAt (marksAfter sure marks i) r) e (result-marked marks k o r a b m t long (λ w. subst T asleep (subst (λ (i : Instr). T (wakes marks i)) e w)) sure) in
         let low = least-low v in
         onward (n + 1) (le-refl _) (inl refl) v r (omega arith) q

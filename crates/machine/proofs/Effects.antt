@@ -45,7 +45,7 @@ pub data Effect (m : Memory) (t : ℕ) (s : Thread) : Instr → Thread → Type 
   branched : {n : ℕ} {a b : Operand} → t ≡ 0 → Effect m t s (Branch n a b) (branchDone n a b s)
   fenced : {k : FenceMode} → t ≡ 0 → Effect m t s (Fence k) (fenceDone k s)
 
-next-same : {s s' : Thread} → next s ≡ next s' → s ≡ s'
+pub next-same : {s s' : Thread} → next s ≡ next s' → s ≡ s'
 next-same {s} {s'} e = cc
 
 test-passed : (b : Bool) (n : ℕ) (o : Executed) (s' : Thread) → test b n o ≡ next s' → T b × (o ≡ next s')
@@ -104,6 +104,13 @@ pub readable-time : (m : Memory) (l t : ℕ) → T (readable m l t) → t ≤ m 
 unfolding readable
 readable-time m l t h =
     ⊎-elim (λ a. let e = eqb→eq t 0 a in omega arith) (λ b. leb→le t (m .count) (and-left (leb t (m .count)) (eqb ((messageAt m t) .location) l) b))
+    (or-cases (eqb t 0) (leb t (m .count) && eqb ((messageAt m t) .location) l) h)
+
+-- what can be read after time 0 is a message to the location
+pub read-there : (m : Memory) (l t : ℕ) → 0 < t → T (readable m l t) → (messageAt m t) .location ≡ l
+unfolding readable
+read-there m l t p h =
+    ⊎-elim (λ a. let e = eqb→eq t 0 a in absurd (omega arith)) (λ b. eqb→eq ((messageAt m t) .location) l (and-right (leb t (m .count)) (eqb ((messageAt m t) .location) l) b))
     (or-cases (eqb t 0) (leb t (m .count) && eqb ((messageAt m t) .location) l) h)
 
 -- an instruction executes at a time of the memory

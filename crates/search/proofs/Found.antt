@@ -3,7 +3,7 @@
 use mathlib.Core.Path.{_≡_, refl, subst, _∙_}
 use mathlib.Core.Bool.{true, false}
 use mathlib.Core.List.{List, [], _∷_}
-use mathlib.Core.Option.{Option, none, some}
+use mathlib.Core.Option.{Option, none, some, Option·some-injective}
 use Prim.Native.Nat.{ℕ, _≤_}
 use native.Mathlib.Omega.{arith}
 use lib.ListN.{length}
@@ -26,13 +26,10 @@ use Rattle.listing.specs.Listing.{stepping, sequencesOf, answerTo}
 use Rattle.listing.proofs.Machine.{taken-accepted}
 use Rattle.listing.proofs.Meaning.{bound, listed, demand-3}
 
-some-same : {x y : Machine} → some x ≡ some y → x ≡ y
-some-same {x} {y} e = cc
-
 -- a run of the search's machine is steps accepted in turn
 pub run-in-turn : (p : Program) (q : List Step) (x y : Machine) → run (stepping p) x q ≡ some y → InTurn p x q y
 unfolding run
-run-in-turn p [] x y h = subst (InTurn p x []) (some-same h) no-step
+run-in-turn p [] x y h = subst (InTurn p x []) (Option·some-injective _ _ h) no-step
 run-in-turn p (k ∷ q) x y h =
     let i = first-step (stepping p) x y k q h in
     a-step k (i .0) (taken-accepted (step p x k) (i .0) (i .1)) (run-in-turn p q (i .0) y (i .2))

@@ -3,7 +3,7 @@
 use mathlib.Core.Path.{_≡_, refl, sym, ap, subst, _∙_}
 use mathlib.Core.Logic.{_⊎_, inl, inr, ⊎-elim}
 use mathlib.Core.Bool.{Bool, true, false, _&&_}
-use mathlib.Core.Option.{Option, none, some}
+use mathlib.Core.Option.{Option, none, some, Option·some-injective}
 use Prim.Native.Nat.{ℕ, zero, suc, max, _+_, _^_, _≤_, _<_}
 use native.Mathlib.Decide.{ℕ-discrete}
 use native.Mathlib.Omega.{arith}
@@ -87,18 +87,15 @@ module _ {t : ℕ} {m : Memory} {s : Thread} (low : t ≤ m .count) (sixteen : l
         high = subst (λ (l : ℕ). t ≤ viewAt (raiseAt (s .coherence) (storeLocation s₁ a) n) l) (sym place) hi;
       }
 
-some-same : {x y : Instr} → some x ≡ some y → x ≡ y
-some-same {x} {y} e = cc
-
 -- so no run starts before it
 late-ends : {Room : Memory → Type 0} {c : Code} {i t : ℕ} {m : Memory} {s : Thread} (x : Instr) → instrAt c (s .position) ≡ some x → t ≤ m .count → length (s .coherence) ≡ 16
     → Late (messageAt m t) t s x → Run Room c i m s → ⊥
 late-ends {t = t} {m = m} {s = s} x f low sixteen q (done e) = has-none (s .promises) t e (late-out x (messageAt m t) t s q)
 late-ends {t = t} {m = m} {s = s} x f low sixteen q (by y u s' g tl e r) =
-    dead-ends (late-by low sixteen (subst (Late (messageAt m t) t s) (some-same (sym f ∙ g)) q) (effect y m u s s' e)) r
+    dead-ends (late-by low sixteen (subst (Late (messageAt m t) t s) (Option·some-injective _ _ (sym f ∙ g)) q) (effect y m u s s' e)) r
 late-ends {i = i} {t = t} {m = m} {s = s} x f low sixteen q (own y w s' g gw room e r) =
     dead-ends
-    (late-own low sixteen (subst (Late (messageAt m t) t s) (some-same (sym f ∙ g)) q) (own-effect i m w s gw (effect y (append m w) ((append m w) .count) (addPromise (append m w) s) s' e)))
+    (late-own low sixteen (subst (Late (messageAt m t) t s) (Option·some-injective _ _ (sym f ∙ g)) q) (own-effect i m w s gw (effect y (append m w) ((append m w) .count) (addPromise (append m w) s) s' e)))
     r
 
 -- ---- each promise stood in a memory on which the thread, as it is, was certified

@@ -6,20 +6,20 @@ use mathlib.Core.Bool.{Bool, true, false, cond, _&&_}
 use mathlib.Core.Option.{some}
 use Prim.Native.Nat.{ℕ, max, _≤_, _<_}
 use native.Mathlib.Omega.{arith}
-use lib.Dec.{T, eqb, leb, ltb, eqb→eq, leb→le, lt→ltb}
+use lib.Dec.{T, eqb, ltb, eqb→eq, lt→ltb}
 use lib.ListN.{length, getD}
 use Rattle.views.specs.Views.{viewAt, raiseAt}
 use Rattle.views.proofs.Entries.{set-all, replicate-all}
 use Rattle.views.proofs.Merging.{raise-reaches}
 use Rattle.source.specs.Program.{instrAt, codeOf}
 use Rattle.source.specs.WellFormed.{programTest}
-use Rattle.source.proofs.Tests.{or-cases, and-left, and-right, and-both}
+use Rattle.source.proofs.Tests.{and-both}
 use Rattle.source.proofs.Formed.{program-ok}
-use Rattle.machine.specs.State.{freshForward, freshThread, threadOf, messageAt, has}
+use Rattle.machine.specs.State.{freshForward, freshThread, threadOf, has}
 use Rattle.machine.specs.Rules.{Executed, next, test, viewOf₂, readable, noneNewer, readView, loadDone, loadAt, execute}
 use Rattle.machine.specs.WellFormed.{machineTest}
 use Rattle.machine.proofs.Sets.{has-none, has-removed, has-added}
-use Rattle.machine.proofs.Effects.{loadLocation, loadPreView, loadPostView, Effect, computed, loaded, stored, branched, fenced}
+use Rattle.machine.proofs.Effects.{loadLocation, loadPreView, loadPostView, Effect, computed, loaded, stored, branched, fenced, readable-time, read-there}
 use Rattle.machine.proofs.Formed.{MachineOk, machine-iff}
 use Rattle.certify.specs.Certify.{certified}
 use Rattle.certify.proofs.Dead.{Dead, dead-run}
@@ -66,13 +66,6 @@ quiet p start = λ i. subst Quiet (sym (fresh-thread i)) fresh-quiet
 quiet p (on {x = x} k y r e) = let f = well-formed p x y k e in did-quiet p x (f .1) (quiet p r) (did p x y k e .2)
 
 -- ---- the load
-read-there : (m : Memory) (l t : ℕ) → 0 < t → T (readable m l t) → (t ≤ m .count) × ((messageAt m t) .location ≡ l)
-unfolding readable
-read-there m l t x h =
-    ⊎-elim (λ a. let e = eqb→eq t 0 a in absurd (omega arith))
-    (λ b. (leb→le t (m .count) (and-left (leb t (m .count)) (eqb ((messageAt m t) .location) l) b), eqb→eq ((messageAt m t) .location) l (and-right (leb t (m .count)) (eqb ((messageAt m t) .location) l) b)))
-    (or-cases (eqb t 0) (leb t (m .count) && eqb ((messageAt m t) .location) l) h)
-
 at-least : (t u v : ℕ) → (u ≡ t → ⊥) → t ≤ cond (eqb t u) v t
 at-least t u v n = go (eqb t u) refl
   where
@@ -96,13 +89,12 @@ test-yes false n o h = absurd h
 module _ (m : Memory) (s : Thread) (sixteen : length (s .coherence) ≡ 16) (q : Quiet s) (k : LoadMode) (r : ℕ) (t l va pre : ℕ) where
   load-dead : l < 16 → 0 < t → T (has (s .promises) t) → T (readable m l t) → Dead t m (loadDone k r m t l va (max pre (readView s l t)) s)
   load-dead low x h rd =
-      let w = read-there m l t x rd in
       let post = max pre (readView s l t) in
       let f = getD (s .forward) l freshForward in
       let n = at-least t (f .time) (f .view) (λ e. q l (subst (λ (u : ℕ). T (has (s .promises) u)) (sym e) h)) in
       let up = raise-reaches (s .coherence) l post (omega arith) in
       let hi : t ≤ viewAt (raiseAt (s .coherence) l post) l = omega arith in
-      record { in-memory = w .0; out = h; high = subst (λ (j : ℕ). t ≤ viewAt (raiseAt (s .coherence) l post) j) (sym (w .1)) hi }
+      record { in-memory = readable-time m l t rd; out = h; high = subst (λ (j : ℕ). t ≤ viewAt (raiseAt (s .coherence) l post) j) (sym (read-there m l t x rd)) hi }
 
 -- OWN PROMISE: on a machine that is reached from the fresh one, a load of an own outstanding promise that passes 26 and 27 is refused by 29
 module _ (p : Program) {x : Machine} (r : Reached p x) (formed : T (programTest p) × T (machineTest p x)) (i t : ℕ) (k : LoadMode) (reg : ℕ) (a b : Operand) where
