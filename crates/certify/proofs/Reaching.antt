@@ -219,10 +219,6 @@ module _ (c : Code) (i : ℕ) (m : Memory) (s : Thread) (x : Instr) (t : ℕ) (u
   pub keeps-done : u .answer ≡ Done → (b : Bool) → b ≡ certified c i m (u .thread) → b ≡ onward (certified c i m) (execute x m t s)
   keeps-done z b be = be ∙ ap (onward (certified c i m)) (sym (ruled-done s (execute x m t s) u e z))
 
--- without promises it is
-pub certified-empty : (c : Code) (i : ℕ) (m : Memory) (s : Thread) (b : Bool) → b ≡ eqb (s .promises) 0 → b ≡ true → true ≡ certified c i m s
-certified-empty c i m s b e t = sym (is-true (certified c i m s) (certified-iff c i m s .1 (done (eqb→eq (s .promises) 0 (subst T (sym (sym e ∙ t)) tt)))))
-
 -- ---- what is alike comes to the same
 aim-alike : (c : Code) (i h k : ℕ) (m : Memory) (s s' : Thread) → Alike c s s' → Aim c i h k m s' → Aim c i h k m s
 aim-alike c i h k m s s' q (inl p) = inl (p .0, q .same-promises ∙ p .1)

@@ -170,11 +170,7 @@ fn keeps(c: Code, i: u8, m: Memory, s: Thread, x: Instr, t: u8) -> bool
     let RuleAnswer::Done = a else {
         return false;
     };
-    let y = r.thread;
-    if is_empty(y.promises) {
-        return true;
-    }
-    least_reached(c, i, m, y, Sought::certified()) == 0
+    least_reached(c, i, m, r.thread, Sought::certified()) == 0
 }
 
 // The instruction is executed at time t, and the thread goes on from there. The tries before t have come to nothing, and have left p.

@@ -4,6 +4,8 @@
 use std::time::Instant;
 
 use twin::bytes::{machine_bytes, program_bytes};
+use twin::machine::Machine;
+use twin::program::Program;
 use twin::worst;
 
 const ROUNDS: u32 = 3;
@@ -25,8 +27,7 @@ fn searched(file: &[u8]) -> f64 {
     })
 }
 
-fn certified(loads: u8) -> f64 {
-    let (program, machine) = worst::unkept(loads);
+fn certified((program, machine): (Program, Machine)) -> f64 {
     let (program, machine) = (program_bytes(&program), machine_bytes(&machine));
     let mut answer = [0; 4];
     let seconds = quickest(|| {
@@ -41,8 +42,9 @@ pub fn times() {
     for vector in worst::files() {
         println!("{:<30}{:>10.3}", vector.name, searched(&vector.file));
     }
-    println!("\n{:<30}{:>10}", "a promise that is not kept", "seconds");
+    println!("\n{:<30}{:>10}", "a promise, 15 messages", "seconds");
     for loads in [4, 6, 7, 8] {
-        println!("{:<30}{:>10.4}", format!("{loads} loads, 15 messages"), certified(loads));
+        println!("{:<30}{:>10.4}", format!("{loads} loads added up"), certified(worst::unkept(loads)));
     }
+    println!("{:<30}{:>10.4}", "10 loads, branches on pairs", certified(worst::compared()));
 }

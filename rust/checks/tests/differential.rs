@@ -109,11 +109,11 @@ fn worst_files() {
 /// Certifications that have to look at every run.
 #[test]
 fn worst_certifications() {
-    for loads in 1..=8 {
-        let (program, machine) = worst::unkept(loads);
+    let unkept = (1..=8).map(worst::unkept).chain([worst::compared()]);
+    for (number, (program, machine)) in unkept.enumerate() {
         let (program, machine) = (program_bytes(&program).to_vec(), machine_bytes(&machine).to_vec());
         let call = Call::Certify { program, machine, thread: 1 };
-        assert_eq!(call.ask(&Library, 4), call.ask(&Twin, 4), "{loads} loads");
+        assert_eq!(call.ask(&Library, 4), call.ask(&Twin, 4), "{number}");
     }
 }
 

@@ -1,8 +1,8 @@
-//! Files and machines that take longest: many live loads before a store.
+//! Files and machines that take longest: many loads that matter before a store.
 
 use crate::litmus::{vector, Vector};
 use crate::machine::Machine;
-use crate::program::{Instruction, Program, COMPUTE, LOAD, STORE};
+use crate::program::{Instruction, Program, BRANCH, COMPUTE, LOAD, STORE};
 
 /// The budget of the recorded answers.
 pub const BUDGET: u32 = 100;
@@ -12,18 +12,37 @@ pub fn files() -> Vec<Vector> {
     include_str!("../../../programs/worst/vectors.txt").lines().map(vector).collect()
 }
 
-/// `loads` loads of location 0, their values added up and stored, and a promise that no run keeps: all
-/// fifteen messages have even values, and it is of an odd one. Certification has to look at every run.
+/// `loads` loads of location 0, their values added up and stored: a promise that no run keeps.
+/// Certification has to look at every run.
 pub fn unkept(loads: u8) -> (Program, Machine) {
+    let mut code: Vec<Instruction> = (0..loads).map(load).collect();
+    code.extend((1..loads).map(|register| [COMPUTE, 0, 0, 1, 0, 1, register]));
+    code.push([STORE, 0, 0, 0, 1, 1, 0]);
+    odd_promise(&code)
+}
+
+/// Ten loads of location 0, four pairs of them compared by branches, the last pair added up and stored: a
+/// promise that no run keeps.
+pub fn compared() -> (Program, Machine) {
+    let pair = |register| [BRANCH, 1, 0, 1, register, 1, register + 1];
+    let mut code: Vec<Instruction> = (0..8).map(load).collect();
+    code.extend([pair(0), load(0), load(1), pair(2), pair(4), pair(6)]);
+    code.extend([[COMPUTE, 0, 0, 1, 0, 1, 1], [STORE, 0, 0, 0, 1, 1, 0]]);
+    odd_promise(&code)
+}
+
+fn load(register: u8) -> Instruction {
+    [LOAD, 0, register, 0, 0, 0, 0]
+}
+
+/// Thread 1 has the code, and a promise of an odd value at location 1; the fifteen messages that it can
+/// read at location 0 are even.
+fn odd_promise(code: &[Instruction]) -> (Program, Machine) {
     let mut program = Program { version: 1, threads: 2, ..Program::default() };
-    let store = |value| [STORE, 0, 0, 0, 0, 0, value];
-    let stores: Vec<Instruction> = (1..=15).map(|number| store(16 * number)).collect();
-    let mut sum: Vec<Instruction> = (0..loads).map(|register| [LOAD, 0, register, 0, 0, 0, 0]).collect();
-    sum.extend((1..loads).map(|register| [COMPUTE, 0, 0, 1, 0, 1, register]));
-    sum.push([STORE, 0, 0, 0, 1, 1, 0]);
-    for (code, instructions) in program.code.iter_mut().zip([&stores, &sum]) {
-        code.count = instructions.len() as u8;
-        code.instructions[..instructions.len()].copy_from_slice(instructions);
+    let stores: Vec<Instruction> = (1..=15).map(|number| [STORE, 0, 0, 0, 0, 0, 16 * number]).collect();
+    for (thread, instructions) in program.code.iter_mut().zip([stores.as_slice(), code]) {
+        thread.count = instructions.len() as u8;
+        thread.instructions[..instructions.len()].copy_from_slice(instructions);
     }
     let mut machine = Machine::default();
     for number in 1..=15 {

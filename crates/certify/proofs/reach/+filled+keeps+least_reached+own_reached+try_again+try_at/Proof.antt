@@ -16,7 +16,7 @@ use Rattle.certify.specs.Sought.{Better, Meets, Missed}
 use Rattle.certify.proofs.Trying.{ready-after, ready-own, reach-byte}
 use Rattle.certify.proofs.Tries.{grain-other, next-within}
 use Rattle.certify.proofs.Plain.{straight-least}
-use Rattle.certify.proofs.Reaching.{least-empty, fill-no-hole, fill-none, fill-unsought, fill-here, fill-fails, fill-alone, hole-time, trying-filled, keeps-refused, keeps-done, certified-empty, found-certified, reach-now, reach-end, reach-found, reach-all, missed-none, missed-next, better-on, better-same, went-refused, went-crowded, went-vain, went-on, owns-none, owns-full, owns-crowded, owns-stuck, owns-goes, further-by, further-own}
+use Rattle.certify.proofs.Reaching.{least-empty, fill-no-hole, fill-none, fill-unsought, fill-here, fill-fails, fill-alone, hole-time, trying-filled, keeps-refused, keeps-done, found-certified, reach-now, reach-end, reach-found, reach-all, missed-none, missed-next, better-on, better-same, went-refused, went-crowded, went-vain, went-on, owns-none, owns-full, owns-crowded, owns-stuck, owns-goes, further-by, further-own}
 use borrow.Fn.PlainCycle.{Measures, is, falls, and}
 use Rattle.certify.proofs.reach.filled.Reads as filled
 use Rattle.certify.proofs.reach.filled.Kinds as filled-kinds
@@ -50,7 +50,6 @@ use Rattle.certify.proofs.window.earliest.Reads as earliest-reads
 use Rattle.certify.proofs.window.following.Reads as following-reads
 use Rattle.machine.proofs.Memory.append.Reads as append-reads
 use Rattle.machine.proofs.promises.has.Reads as has-reads
-use Rattle.machine.proofs.promises.is_empty.Reads as is-empty-reads
 use Rattle.rules.proofs.execute.Reads as execute-reads
 use Rattle.rules.proofs.operands.view_of.Reads as view-of-reads
 use Rattle.rules.proofs.own_store.Reads as own-store-reads
@@ -130,7 +129,7 @@ abbrev filled-claims : ℕ → filled-lts.Claims
 filled-claims t = (has-reads.Asked, has-reads.Learnt, own-message-reads.Asked, own-message-reads.Learnt, lowered-reads.Asked, lowered-reads.Learnt, view-of-reads.Asked, view-of-reads.Learnt, below-time-reads.Asked, below-time-reads.Learnt, fill-reads.Asked, fill-reads.Learnt, keeps-below t, keeps.Post)
 
 abbrev keeps-claims : ℕ → keeps-lts.Claims
-keeps-claims t = (execute-reads.Asked, execute-reads.Learnt, is-empty-reads.Asked, is-empty-reads.Learnt, certified-reads.Asked, certified-reads.Learnt, least-reached-below t, least-reached.Post)
+keeps-claims t = (execute-reads.Asked, execute-reads.Learnt, certified-reads.Asked, certified-reads.Learnt, least-reached-below t, least-reached.Post)
 
 abbrev least-reached-claims : ℕ → least-reached-lts.Claims
 least-reached-claims t = (straight-reads.Asked, straight-reads.Learnt, kept-reads.Asked, kept-reads.Learnt, instr-at-reads.Asked, instr-at-reads.Learnt, below-reads.Asked, below-reads.Learnt, filled-below t, filled.Post, earliest-reads.Asked, earliest-reads.Learnt, try-at-below t, try-at.Post, following-reads.Asked, following-reads.Learnt, own-reached-below t, own-reached.Post)
@@ -240,20 +239,14 @@ keeps-enum-told-2 t c = search needs
 keeps-returns : (t : ℕ) → keeps-lts.Need-returns (keeps-claims t) (keeps-at t) keeps.Post
 keeps-returns t c = keeps-refused _ _ _ _ _ _ _ (c .before .before .execute .ensures) _ (c .enum-told2 .given .1)
 
-keeps-is-empty-requires : (t : ℕ) → keeps-lts.Need-is-empty-requires (keeps-claims t) (keeps-at t) keeps.Post
-keeps-is-empty-requires t c κs = search needs
-
-keeps-returns-2 : (t : ℕ) → keeps-lts.Need-returns-2 (keeps-claims t) (keeps-at t) keeps.Post
-keeps-returns-2 t c = keeps-done _ _ _ _ _ _ _ (c .before .before .before .before .before .execute .ensures) (c .before .before .before .enum-told .given .1) _ (certified-empty _ _ _ _ _ (c .before .is-empty .ensures) (c .if1 .taken))
-
 keeps-certified-requires : (t : ℕ) → keeps-lts.Need-certified-requires (keeps-claims t) (keeps-at t) keeps.Post
 keeps-certified-requires t c κs = search needs
 
 keeps-least-reached-requires : (t : ℕ) → keeps-lts.Need-least-reached-requires (keeps-claims t) (keeps-at t) keeps.Post
-keeps-least-reached-requires t c κs = let d = ruled-done _ _ _ (c .before .before .before .before .before .before .execute .ensures) (c .before .before .before .before .enum-told .given .1) in let f = further-by _ _ _ _ (c .before .before .before .before .before .before .before .pre .1) _ _ d in (omega (arith, c .before .before .before .before .before .before .before .pre .0), ready-after (c .before .before .before .before .before .before .before .pre .1 .ready) (effect _ _ _ _ _ d))
+keeps-least-reached-requires t c κs = let d = ruled-done _ _ _ (c .before .before .before .execute .ensures) (c .before .enum-told .given .1) in let f = further-by _ _ _ _ (c .before .before .before .before .pre .1) _ _ d in (omega (arith, c .before .before .before .before .pre .0), ready-after (c .before .before .before .before .pre .1 .ready) (effect _ _ _ _ _ d))
 
-keeps-returns-3 : (t : ℕ) → keeps-lts.Need-returns-3 (keeps-claims t) (keeps-at t) keeps.Post
-keeps-returns-3 t c = keeps-done _ _ _ _ _ _ _ (c .before .before .before .before .before .before .before .execute .ensures) (c .before .before .before .before .before .enum-told .given .1) _ (found-certified _ _ _ _ _ (rw (c .before .certified .ensures) at (c .least-reached .ensures)))
+keeps-returns-2 : (t : ℕ) → keeps-lts.Need-returns-2 (keeps-claims t) (keeps-at t) keeps.Post
+keeps-returns-2 t c = keeps-done _ _ _ _ _ _ _ (c .before .before .before .before .execute .ensures) (c .before .before .enum-told .given .1) _ (found-certified _ _ _ _ _ (rw (c .before .certified .ensures) at (c .least-reached .ensures)))
 
 abbrev least-reached-Inv-loop : least-reached-lts.InvT-loop
 least-reached-Inv-loop c i m q y now x here t₀ r₀ t r = Missed c i m y x q r t × (Better (q .from) (r₀ .best) (Meets c i m y (q .hole)) (r .best) × (t ≤ 17))
@@ -482,11 +475,9 @@ pub +filled+keeps+least-reached+own-reached+try-again+try-at-spec : {M : Type 1}
     (keeps-enum-told t)
     (keeps-enum-told-2 t)
     (keeps-returns t)
-    (keeps-is-empty-requires t)
-    (keeps-returns-2 t)
     (keeps-certified-requires t)
     (keeps-least-reached-requires t)
-    (keeps-returns-3 t))
+    (keeps-returns-2 t))
     (λ t. least-reached-lts.spec (least-reached-claims t) (least-reached-at t)
     least-reached.Post
     least-reached-Inv-loop
