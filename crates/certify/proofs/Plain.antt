@@ -2,6 +2,7 @@
 -- Assumes nothing.
 use mathlib.Core.Path.{_≡_, refl, sym, ap, subst, subst₂, _∙_}
 use mathlib.Core.Logic.{inl, inr}
+use mathlib.Core.Bool.{Bool, true, false}
 use mathlib.Core.Option.{some, Option·some-injective}
 use Prim.Native.Nat.{ℕ, _<_}
 use native.Mathlib.Nat.{le-refl}
@@ -15,12 +16,20 @@ use Rattle.certify.specs.Below.{Code, Operand, ComputeMode, FenceMode, I
 use Rattle.certify.specs.Certify.{messageOf}
 use Rattle.certify.specs.Answers.{Ready}
 use Rattle.certify.specs.Runs.{done, by, own}
-use Rattle.certify.specs.Sought.{Least, Meets, isPlain, Straight}
+use Rattle.certify.specs.Sought.{Least, Meets, Straight}
 use Rattle.certify.proofs.Executes.{executes}
 use Rattle.certify.proofs.Trying.{ready-after}
 use Rattle.certify.proofs.Reaching.{least-as}
 
 -- ---- one plain instruction
+-- the instruction is neither load nor store
+unfoldable isPlain : Instr → Bool
+isPlain (Compute k r a b) = true
+isPlain (Load k r a b) = false
+isPlain (Store k a d) = false
+isPlain (Branch n a b) = true
+isPlain (Fence k) = true
+
 -- it leaves the same at whatever time, and the promises as they were
 plain-same : {x : Instr} {m : Memory} {t u : ℕ} {s s' s'' : Thread} → T (isPlain x) → Effect m t s x s' → Effect m u s x s'' → s'' ≡ s'
 unfolding isPlain

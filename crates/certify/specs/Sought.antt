@@ -2,7 +2,6 @@
 -- Assumes nothing.
 use mathlib.Core.Path.{_≡_}
 use mathlib.Core.Logic.{_⊎_}
-use mathlib.Core.Bool.{Bool, true, false}
 use mathlib.Core.Option.{some}
 use Prim.Native.Nat.{ℕ, _+_, _-_, _*_, _≤_, _<_}
 use lib.Dec.{T}
@@ -10,7 +9,7 @@ use lib.ListN.{set}
 use Rattle.source.specs.Program.{instrAt}
 use Rattle.machine.specs.State.{append}
 use Rattle.machine.specs.Rules.{next, execute, addPromise}
-use Rattle.certify.specs.Below.{Code, Instr, Compute, Load, Store, Branch, Fence, Message, Memory, Thread}
+use Rattle.certify.specs.Below.{Code, Instr, Message, Memory, Thread}
 use Rattle.certify.specs.Certify.{messageOf, onward, certified}
 use Rattle.certify.specs.Answers.{Ready}
 use Rattle.certify.specs.Runs.{Comes, Fewer}
@@ -46,14 +45,6 @@ pub record Least (from best : ℕ) (P : ℕ → Type 0) (r : ℕ) : Type 0 where
 -- the thread alone comes to what is sought, by the number k
 abbrev pub Meets : Code → ℕ → Memory → Thread → ℕ → ℕ → Type 0
 Meets c i m s h k = Comes (Aim c i h k) Fewer c i m s
-
--- the instruction is neither load nor store
-unfoldable pub isPlain : Instr → Bool
-isPlain (Compute k r a b) = true
-isPlain (Load k r a b) = false
-isPlain (Store k a d) = false
-isPlain (Branch n a b) = true
-isPlain (Fence k) = true
 
 -- r is s some instructions on, each of which had one way to go on: what the one comes to the other does
 pub record Straight (c : Code) (m : Memory) (s r : Thread) : Type 0 where

@@ -1,9 +1,8 @@
 // The instructions that have one way to go on, taken at once: computes, branches and fences.
-ghost use mathlib.Core.Path.{_≡_};
 ghost use Rattle.source.proofs.Formed.{CodeOk};
 ghost use Rattle.certify.specs.Below.{Memory};
 ghost use Rattle.certify.specs.Answers.{Ready};
-ghost use Rattle.certify.specs.Sought.{isPlain, Straight};
+ghost use Rattle.certify.specs.Sought.{Straight};
 use machine::Thread;
 use rules::operands::value_of;
 use rules::operands::view_of_both;
@@ -13,20 +12,7 @@ use rules::plain::fence_done;
 use source::Code;
 use source::Instr;
 
-// The instruction is neither load nor store.
-fn is_plain(x: Instr) -> bool
-    ensures { λ r. ⌜ r ≡ isPlain x ⌝ }
-{
-    match x {
-        Instr::Load(_, _, _, _) => false,
-        Instr::Store(_, _, _) => false,
-        Instr::Compute(_, _, _, _) => true,
-        Instr::Branch(_, _, _) => true,
-        Instr::Fence(_) => true,
-    }
-}
-
-// The thread at its next load or store, or at its end. One that is there already is not copied.
+// The thread at its next load or store, or at its end. One that is there already (op 1 or 2) is not copied.
 pub fn straight(c: Code, s: Thread) -> Thread
     requires { ⌜ CodeOk c ⌝ }
     ensures { λ r. ⌜ ((m : Memory) → Ready c m s → Straight c m s r) ⌝ }
@@ -34,7 +20,8 @@ pub fn straight(c: Code, s: Thread) -> Thread
     if c.count <= s.position {
         return s;
     }
-    if !is_plain(c.instr_at(s.position)) {
+    let op = c.instruction_at(s.position).op;
+    if (op == 1) | (op == 2) {
         return s;
     }
     let mut y = s;

@@ -1,4 +1,4 @@
--- Exploration: which stores could come to fulfil a promise that is made now.
+-- Exploration: which stores can come to fulfil a promise that is made now, the other promises being kept too.
 -- Assumes nothing.
 use Prim.Native.Nat.{ℕ, _+_}
 use Rattle.source.specs.declared.Code.{Code}
@@ -13,6 +13,6 @@ use Rattle.certify.specs.Sought.{Meets}
 abbrev pub hole : Message
 hole = record { location = 16; value = 0; thread = 0 }
 
--- REACHED: with the hole in place of the promise, the thread alone comes to a store numbered k that could fill it
+-- REACHED: with the hole in place of the promise, the thread alone comes to a store numbered k that fills it
 abbrev pub Reached : Code → Memory → Thread → ℕ → Type 0
 Reached c m s k = Meets c 0 (append m hole) (addPromise (append m hole) s) (m .count + 1) k

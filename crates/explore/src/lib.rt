@@ -1,5 +1,5 @@
-// Promises by exploration: the runs of a thread alone, on a memory with one message more that no load can read, say which stores could
-// fulfil a promise there.
+// Promises by exploration: the runs of a thread alone, on a memory with one message more that no load can read, say which stores can
+// fulfil a promise there and leave the thread certified.
 ghost use mathlib.Core.Path.{_≡_};
 ghost use Prim.Native.Nat.{_<_};
 ghost use Rattle.certify.specs.Answers.{Ready};
@@ -13,7 +13,7 @@ use machine::Thread;
 use machine::promises::with;
 use source::Code;
 
-// The least promise from `from` on, by 256 · l + v, that a store of the thread could come to fulfil, or 4096.
+// The least promise from `from` on, by 256 · l + v, that a store of the thread can come to fulfil, or 4096.
 pub fn next_reached(c: Code, m: Memory, s: Thread, from: u16) -> u16
     requires { ⌜ Ready c m s × (m .count < 16) ⌝ }
     ensures { λ r. ⌜ Least from 4096 (Reached c m s) r ⌝ }

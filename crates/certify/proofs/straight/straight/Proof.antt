@@ -12,19 +12,16 @@ use Rattle.certify.proofs.straight.straight.Statement.{statement}
 use Rattle.certify.proofs.straight.straight.Tie as tie
 
 abbrev Inv-loop : tie.InvT-loop
-Inv-loop c y₀ y = (m : Memory) → Ready c m y₀ → Straight c m y₀ y
+Inv-loop c op y₀ y = (m : Memory) → Ready c m y₀ → Straight c m y₀ y
 
 abbrev μ-loop : tie.MeasureT-loop
-μ-loop c y₀ y = 17 - y .position
+μ-loop c op y₀ y = 17 - y .position
 
 returns : tie.Need-returns Inv-loop μ-loop
 returns c = λ m. straight-self _ m _
 
-instr-at-requires : tie.Need-instr-at-requires Inv-loop μ-loop
-instr-at-requires c κs = let h = c .before .before .before .pre .short in let l = c .if1 .left in (omega arith, l)
-
-is-plain-requires : tie.Need-is-plain-requires Inv-loop μ-loop
-is-plain-requires c κs = search needs
+instruction-at-requires : tie.Need-instruction-at-requires Inv-loop μ-loop
+instruction-at-requires c κs = let h = c .before .before .before .pre .short in let l = c .if1 .left in omega arith
 
 returns-2 : tie.Need-returns-2 Inv-loop μ-loop
 returns-2 c = λ m. straight-self _ m _
@@ -32,8 +29,8 @@ returns-2 c = λ m. straight-self _ m _
 loop-holds : tie.Need-loop-holds Inv-loop μ-loop
 loop-holds c = λ m. straight-self _ m _
 
-instr-at-requires-2 : tie.Need-instr-at-requires-2 Inv-loop μ-loop
-instr-at-requires-2 c κs = let h = c .before .before .before .before .before .before .before .before .before .before .pre .short in let l = c .if3 .taken in (omega arith, l)
+instr-at-requires : tie.Need-instr-at-requires Inv-loop μ-loop
+instr-at-requires c κs = let h = c .before .before .before .before .before .before .before .before .before .pre .short in let l = c .if3 .taken in (omega arith, l)
 
 enum-known-x : tie.Need-enum-known-x Inv-loop μ-loop
 enum-known-x c = search needs
@@ -54,37 +51,37 @@ with-register-requires : tie.Need-with-register-requires Inv-loop μ-loop
 with-register-requires c κs = search needs
 
 advance-requires : tie.Need-advance-requires Inv-loop μ-loop
-advance-requires c κs = let h = c .before .before .before .before .before .before .before .before .before .before .before .before .before .before .before .before .before .before .before .pre .short in let l = c .before .before .before .before .before .before .before .before .before .if3 .taken in rw (c .with-register .ensures) (omega arith)
+advance-requires c κs = let h = c .before .before .before .before .before .before .before .before .before .before .before .before .before .before .before .before .before .before .pre .short in let l = c .before .before .before .before .before .before .before .before .before .if3 .taken in rw (c .with-register .ensures) (omega arith)
 
 loop-less : tie.Need-loop-less Inv-loop μ-loop
-loop-less c = let w = (straight-compute _ _ _ (c .before .before .before .before .before .before .before .before .before .before .before .before .before .loop .inv) _ (c .before .before .before .before .before .before .before .before .before .instr-at2 .ensures) (c .advance .result) _ _ _ _ (c .before .before .before .before .before .before .before .x .given .1) (rw (c .advance .ensures, c .before .with-register .ensures, c .before .before .view-of-both .ensures, c .before .before .before .combine .ensures, c .before .before .before .before .value-of2 .ensures, c .before .before .before .before .before .value-of .ensures))) .1 in let l = c .before .before .before .before .before .before .before .before .before .before .if3 .taken in let h = c .before .before .before .before .before .before .before .before .before .before .before .before .before .before .before .before .before .before .before .before .pre .short in omega arith
+loop-less c = let w = (straight-compute _ _ _ (c .before .before .before .before .before .before .before .before .before .before .before .before .before .loop .inv) _ (c .before .before .before .before .before .before .before .before .before .instr-at .ensures) (c .advance .result) _ _ _ _ (c .before .before .before .before .before .before .before .x .given .1) (rw (c .advance .ensures, c .before .with-register .ensures, c .before .before .view-of-both .ensures, c .before .before .before .combine .ensures, c .before .before .before .before .value-of2 .ensures, c .before .before .before .before .before .value-of .ensures))) .1 in let l = c .before .before .before .before .before .before .before .before .before .before .if3 .taken in let h = c .before .before .before .before .before .before .before .before .before .before .before .before .before .before .before .before .before .before .before .pre .short in omega arith
 
 loop-again : tie.Need-loop-again Inv-loop μ-loop
-loop-again c = (straight-compute _ _ _ (c .before .before .before .before .before .before .before .before .before .before .before .before .before .loop .inv) _ (c .before .before .before .before .before .before .before .before .before .instr-at2 .ensures) (c .advance .result) _ _ _ _ (c .before .before .before .before .before .before .before .x .given .1) (rw (c .advance .ensures, c .before .with-register .ensures, c .before .before .view-of-both .ensures, c .before .before .before .combine .ensures, c .before .before .before .before .value-of2 .ensures, c .before .before .before .before .before .value-of .ensures))) .0
+loop-again c = (straight-compute _ _ _ (c .before .before .before .before .before .before .before .before .before .before .before .before .before .loop .inv) _ (c .before .before .before .before .before .before .before .before .before .instr-at .ensures) (c .advance .result) _ _ _ _ (c .before .before .before .before .before .before .before .x .given .1) (rw (c .advance .ensures, c .before .with-register .ensures, c .before .before .view-of-both .ensures, c .before .before .before .combine .ensures, c .before .before .before .before .value-of2 .ensures, c .before .before .before .before .before .value-of .ensures))) .0
 
 enum-known-x-2 : tie.Need-enum-known-x-2 Inv-loop μ-loop
 enum-known-x-2 c = search needs
 
 branch-done-requires : tie.Need-branch-done-requires Inv-loop μ-loop
-branch-done-requires c κs = let h = reach-within _ (c .before .before .before .before .before .before .before .before .before .before .before .before .before .before .pre) _ _ (c .before .before .before .instr-at2 .ensures) in let q = rw (c .before .x2 .given .1) at h in let s = c .before .before .before .before .before .before .before .before .before .before .before .before .before .before .pre .short in omega arith
+branch-done-requires c κs = let h = reach-within _ (c .before .before .before .before .before .before .before .before .before .before .before .before .before .pre) _ _ (c .before .before .before .instr-at .ensures) in let q = rw (c .before .x2 .given .1) at h in let s = c .before .before .before .before .before .before .before .before .before .before .before .before .before .pre .short in omega arith
 
 loop-less-2 : tie.Need-loop-less-2 Inv-loop μ-loop
-loop-less-2 c = let w = (straight-branch _ _ _ (c .before .before .before .before .before .before .before .before .loop .inv) _ (c .before .before .before .before .instr-at2 .ensures) _ _ _ _ (c .before .before .x2 .given .1) (c .branch-done .ensures)) .1 in let l = c .before .before .before .before .before .if3 .taken in let h = c .before .before .before .before .before .before .before .before .before .before .before .before .before .before .before .pre .short in omega arith
+loop-less-2 c = let w = (straight-branch _ _ _ (c .before .before .before .before .before .before .before .before .loop .inv) _ (c .before .before .before .before .instr-at .ensures) _ _ _ _ (c .before .before .x2 .given .1) (c .branch-done .ensures)) .1 in let l = c .before .before .before .before .before .if3 .taken in let h = c .before .before .before .before .before .before .before .before .before .before .before .before .before .before .pre .short in omega arith
 
 loop-again-2 : tie.Need-loop-again-2 Inv-loop μ-loop
-loop-again-2 c = (straight-branch _ _ _ (c .before .before .before .before .before .before .before .before .loop .inv) _ (c .before .before .before .before .instr-at2 .ensures) _ _ _ _ (c .before .before .x2 .given .1) (c .branch-done .ensures)) .0
+loop-again-2 c = (straight-branch _ _ _ (c .before .before .before .before .before .before .before .before .loop .inv) _ (c .before .before .before .before .instr-at .ensures) _ _ _ _ (c .before .before .x2 .given .1) (c .branch-done .ensures)) .0
 
 enum-known-x-3 : tie.Need-enum-known-x-3 Inv-loop μ-loop
 enum-known-x-3 c = search needs
 
 fence-done-requires : tie.Need-fence-done-requires Inv-loop μ-loop
-fence-done-requires c κs = let h = c .before .before .before .before .before .before .before .before .before .before .before .before .before .before .pre .short in let l = c .before .before .before .before .if3 .taken in omega arith
+fence-done-requires c κs = let h = c .before .before .before .before .before .before .before .before .before .before .before .before .before .pre .short in let l = c .before .before .before .before .if3 .taken in omega arith
 
 loop-less-3 : tie.Need-loop-less-3 Inv-loop μ-loop
-loop-less-3 c = let w = (straight-fence _ _ _ (c .before .before .before .before .before .before .before .before .loop .inv) _ (c .before .before .before .before .instr-at2 .ensures) _ _ (c .before .before .x3 .given .1) (c .fence-done .ensures)) .1 in let l = c .before .before .before .before .before .if3 .taken in let h = c .before .before .before .before .before .before .before .before .before .before .before .before .before .before .before .pre .short in omega arith
+loop-less-3 c = let w = (straight-fence _ _ _ (c .before .before .before .before .before .before .before .before .loop .inv) _ (c .before .before .before .before .instr-at .ensures) _ _ (c .before .before .x3 .given .1) (c .fence-done .ensures)) .1 in let l = c .before .before .before .before .before .if3 .taken in let h = c .before .before .before .before .before .before .before .before .before .before .before .before .before .before .pre .short in omega arith
 
 loop-again-3 : tie.Need-loop-again-3 Inv-loop μ-loop
-loop-again-3 c = (straight-fence _ _ _ (c .before .before .before .before .before .before .before .before .loop .inv) _ (c .before .before .before .before .instr-at2 .ensures) _ _ (c .before .before .x3 .given .1) (c .fence-done .ensures)) .0
+loop-again-3 c = (straight-fence _ _ _ (c .before .before .before .before .before .before .before .before .loop .inv) _ (c .before .before .before .before .instr-at .ensures) _ _ (c .before .before .x3 .given .1) (c .fence-done .ensures)) .0
 
 enum-told : tie.Need-enum-told Inv-loop μ-loop
 enum-told c = search needs
@@ -108,11 +105,10 @@ straight-spec =
     Inv-loop
     μ-loop
     returns
-    instr-at-requires
-    is-plain-requires
+    instruction-at-requires
     returns-2
     loop-holds
-    instr-at-requires-2
+    instr-at-requires
     enum-known-x
     value-of-requires
     value-of-requires-2
