@@ -9,5 +9,7 @@ pub mod Lower
 pub mod Executes
 pub mod Alike
 pub mod Tries
+pub mod Numbers
+pub mod Filling
 pub mod Reaching
 pub mod Plain

@@ -19,7 +19,7 @@ use Rattle.certify.specs.Runs.{done, by, own}
 use Rattle.certify.specs.Sought.{Least, Meets, Straight}
 use Rattle.certify.proofs.Executes.{executes}
 use Rattle.certify.proofs.Trying.{ready-after}
-use Rattle.certify.proofs.Reaching.{least-as}
+use Rattle.certify.proofs.Numbers.{least-as}
 
 -- ---- one plain instruction
 -- the instruction is neither load nor store

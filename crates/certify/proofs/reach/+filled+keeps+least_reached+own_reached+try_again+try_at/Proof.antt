@@ -16,7 +16,9 @@ use Rattle.certify.specs.Sought.{Better, Meets, Missed}
 use Rattle.certify.proofs.Trying.{ready-after, ready-own, reach-byte}
 use Rattle.certify.proofs.Tries.{grain-other, next-within}
 use Rattle.certify.proofs.Plain.{straight-least}
-use Rattle.certify.proofs.Reaching.{least-empty, fill-no-hole, fill-none, fill-unsought, fill-here, fill-fails, fill-alone, hole-time, trying-filled, keeps-refused, keeps-done, found-certified, reach-now, reach-end, reach-found, reach-all, missed-none, missed-next, better-on, better-same, went-refused, went-crowded, went-vain, went-on, owns-none, owns-full, owns-crowded, owns-stuck, owns-goes, further-by, further-own}
+use Rattle.certify.proofs.Numbers.{least-empty, better-on, better-same}
+use Rattle.certify.proofs.Filling.{fill-no-hole, fill-none, fill-unsought, fill-here, fill-fails, fill-alone, hole-time, trying-filled, keeps-refused, keeps-done}
+use Rattle.certify.proofs.Reaching.{found-certified, reach-now, reach-end, reach-found, reach-all, missed-none, missed-next, went-refused, went-crowded, went-vain, went-on, owns-none, owns-full, owns-crowded, owns-stuck, owns-goes, further-by, further-own}
 use borrow.Fn.PlainCycle.{Measures, is, falls, and}
 use Rattle.certify.proofs.reach.filled.Reads as filled
 use Rattle.certify.proofs.reach.filled.Kinds as filled-kinds

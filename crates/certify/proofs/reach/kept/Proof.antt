@@ -1,6 +1,6 @@
 -- `certify::reach::kept` meets its contract.
 -- Assumes nothing.
-use Rattle.certify.proofs.Reaching.{kept-not, kept-now}
+use Rattle.certify.proofs.Numbers.{kept-not, kept-now}
 use borrow.Author.Needs.{needs}
 use Rattle.certify.proofs.reach.kept.Statement.{statement}
 use Rattle.certify.proofs.reach.kept.Tie as tie
