@@ -3,68 +3,46 @@
 use mathlib.Core.Path.{_≡_, refl, sym, ap, ap₂, _∙_, subst}
 use mathlib.Core.Logic.{_⊎_, inl, inr}
 use mathlib.Core.Bool.{Bool, true, false, not, _||_}
-use mathlib.Core.List.{List}
 use mathlib.Core.Option.{some}
-use Prim.Native.Nat.{ℕ, zero, suc, max, _+_, _≤_, _<_}
-use native.Mathlib.Nat.{le-refl, lt-of-le-of-lt}
+use Prim.Native.Nat.{ℕ, zero, suc, max, _+_, _<_}
 use native.Mathlib.Omega.{arith}
 use lib.Dec.{T, eqb-refl, eqb, eqb→eq}
-use lib.ListN.{length, getD, set, length-set}
+use lib.ListN.{getD, set}
 use borrow.Author.Tests.{ne-eqb}
-use Rattle.views.specs.Views.{viewAt, raiseAt}
+use Rattle.views.specs.Views.{viewAt}
 use Rattle.views.proofs.Entries.{set-both}
-use Rattle.views.proofs.Merging.{length-raise}
 use Rattle.source.specs.Program.{instrAt}
-use Rattle.source.specs.Tests.{below}
 use Rattle.source.proofs.Tests.{or-left, or-right, and-both}
-use Rattle.machine.specs.State.{append, has, with, without, freshRegister, freshForward}
-use Rattle.machine.specs.Rules.{next, valueOf, viewOf, viewOf₂, address, combine, computeDone, branchBy, branchDone, fenceDone, storeDone, readable, noneNewer, readView, loadDone, storePre, execute, addPromise}
+use Rattle.machine.specs.State.{append, freshRegister}
+use Rattle.machine.specs.Rules.{valueOf, viewOf, viewOf₂, address, combine, computeDone, branchBy, branchDone, fenceDone, storeDone, readable, noneNewer, loadDone, storePre, addPromise}
 use Rattle.machine.proofs.Effects.{loadLocation, loadPreView, loadPostView, storeLocation, Promised, Effect, computed, loaded, stored, branched, fenced, effect}
 use Rattle.live.specs.Live.{isRegister, eitherRegister, locates, weighs, writes, skips, Live, here, later, through}
-use Rattle.certify.specs.Below.{Code, Operand, Constant, OfRegister, ComputeMode, LoadMode, StoreMode, FenceMode, Instr, Compute, Load, Store, Branch, Fence, Memory, Register, Forward, Thread}
+use Rattle.certify.specs.Below.{Code, Operand, Constant, OfRegister, ComputeMode, LoadMode, StoreMode, FenceMode, Instr, Compute, Load, Store, Branch, Fence, Memory, Register, Thread}
 use Rattle.certify.proofs.Iff.{certified-iff}
-use Rattle.certify.proofs.Lower.{Lower, raise-both, near-sum, max-low, pre-low, store-pre-low, load-views-low, store-views-low, cap-views-low, fence-views-low, none-newer-low, view-low}
+use Rattle.certify.proofs.Lower.{near-sum}
+use Rattle.certify.proofs.Under.{promise-under, compute-under, branch-under, fence-under, read-low, post-low, load-under, load-effect, store-under, store-effect}
 use Rattle.certify.proofs.Executes.{executes}
 use Rattle.certify.specs.Runs.{Comes, done, by, own}
-use Rattle.certify.specs.Tries.{Matches}
+use Rattle.certify.specs.Under.{Under}
 use Rattle.certify.specs.Certify.{messageOf, certified}
 
--- the forward pairs at l: the same time, with a view that is at most the other
-abbrev pub Forwarded : List Forward → List Forward → ℕ → Type 0
-Forwarded xs ys l = ((getD xs l freshForward) .time ≡ (getD ys l freshForward) .time) × ((getD xs l freshForward) .view ≤ (getD ys l freshForward) .view)
-
--- register k holds the same as far as it matters at position n: the value if it is live as a value, modulo 16 if as a location; and no larger view
+-- register k holds the same as far as it matters at position n: the value if it is live as a value, modulo 16 if as a location
 pub record Agree (c : Code) (k n : ℕ) (x y : Register) : Type 0 where
   pub same : Live c true k n → x .value ≡ y .value
   pub near : Live c false k n → address (x .value) ≡ address (y .value)
-  pub low : x .view ≤ y .view
 
 -- ALIKE: as s', but for what registers hold that does not matter, and with views that are at most those of s'
 pub record Alike (c : Code) (s s' : Thread) : Type 0 where
-  pub same-position : s .position ≡ s' .position
-  pub same-promises : s .promises ≡ s' .promises
-  pub registers-long : length (s .registers) ≡ length (s' .registers)
+  pub under : Under s s'
   pub registers-agree : (k : ℕ) → Agree c k (s' .position) (getD (s .registers) k freshRegister) (getD (s' .registers) k freshRegister)
-  pub coherence-long : length (s .coherence) ≡ length (s' .coherence)
-  pub coherence-low : (l : ℕ) → viewAt (s .coherence) l ≤ viewAt (s' .coherence) l
-  pub forward-long : length (s .forward) ≡ length (s' .forward)
-  pub forward-same : (l : ℕ) → Forwarded (s .forward) (s' .forward) l
-  pub views-low : Lower (s .views) (s' .views)
 
 -- ---- one instruction on both threads
 -- a register agrees with itself
 agree-self : (c : Code) (k n : ℕ) (x : Register) → Agree c k n x x
-agree-self c k n x = record { same = λ l. refl; near = λ l. refl; low = le-refl _ }
+agree-self c k n x = record { same = λ l. refl; near = λ l. refl }
 
 module _ (c : Code) (s s' : Thread) (h : Alike c s s') where
-  -- an operand's view, and its value if it is live, as a value or as a location
-  operand-low : (a : Operand) → viewOf s a ≤ viewOf s' a
-  operand-low (Constant n) = le-refl 0
-  operand-low (OfRegister r) = h .registers-agree r .low
-
-  operands-low : (a b : Operand) → viewOf₂ s a b ≤ viewOf₂ s' a b
-  operands-low a b = max-low _ _ _ _ (operand-low a) (operand-low b)
-
+  -- an operand's value if it is live, as a value or as a location
   operand-same : (a : Operand) → ((k : ℕ) → T (isRegister k a) → Live c true k (s' .position)) → valueOf s a ≡ valueOf s' a
   unfolding isRegister
   operand-same (Constant n) l = refl
@@ -81,13 +59,13 @@ module _ (c : Code) (s s' : Thread) (h : Alike c s s') (x : Instr) (g : instrAt 
       → Agree c k n (getD (s .registers) k freshRegister) (getD (s' .registers) k freshRegister)
   kept-register n f k w =
       let q = h .registers-agree k in
-      record { same = λ l. q .same (later x n g w f l); near = λ l. q .near (later x n g w f l); low = q .low }
+      record { same = λ l. q .same (later x n g w f l); near = λ l. q .near (later x n g w f l) }
 
   -- the registers, where r is written
   set-registers : (r : ℕ) → ((k : ℕ) → T (writes k x) → k ≡ r) → (y y' : Register) → Agree c r (s' .position + 1) y y' → (k : ℕ)
       → Agree c k (s' .position + 1) (getD (set (s .registers) r y) k freshRegister) (getD (set (s' .registers) r y') k freshRegister)
   set-registers r only y y' e =
-      set-both (λ (k : ℕ) (a b : Register). Agree c k (s' .position + 1) a b) freshRegister y y' (s .registers) (s' .registers) r (h .registers-long)
+      set-both (λ (k : ℕ) (a b : Register). Agree c k (s' .position + 1) a b) freshRegister y y' (s .registers) (s' .registers) r (h .under .registers-long)
       (λ k n. kept-register (s' .position + 1) (inl refl) k (λ t. n (only k t))) (agree-self c r (s' .position + 1) freshRegister) e
 
 -- what the thread s makes of an instruction that s' executed: it executes too, and the threads stay alike
@@ -96,7 +74,6 @@ pub record Followed (c : Code) (m : Memory) (t : ℕ) (s : Thread) (x : Instr) (
   pub does : Effect m t s x after
   pub alike : Alike c after u'
 
--- a load: s at time t', s' at time t
 module _ (c : Code) (s s' : Thread) (h : Alike c s s') (k : LoadMode) (r : ℕ) (a b : Operand) (g : instrAt c (s' .position) ≡ some (Load k r a b)) (m : Memory) where
   same-location : loadLocation s a b ≡ loadLocation s' a b
   unfolding locates eitherRegister
@@ -104,44 +81,20 @@ module _ (c : Code) (s s' : Thread) (h : Alike c s s') (k : LoadMode) (r : ℕ) 
       near-sum _ _ _ _ (operand-near c s s' h a (λ j t. here (Load k r a b) g (or-left (isRegister j a) (isRegister j b) t)))
       (operand-near c s s' h b (λ j t. here (Load k r a b) g (or-right (isRegister j a) (isRegister j b) t)))
 
-  pre-view-low : loadPreView k s a b ≤ loadPreView k s' a b
-  pre-view-low = pre-low k _ _ (s .views) (s' .views) (operands-low c s s' h a b) (h .views-low)
-
   load-writes : (j : ℕ) → T (writes j (Load k r a b)) → j ≡ r
   unfolding writes
   load-writes j t = sym (eqb→eq r j t)
-
-  -- what two loads leave, of values that are the same as far as it matters, the one with a smaller post-view
-  load-alike : (t t' post post' : ℕ) → Matches c m r (s' .position + 1) t t' → post ≤ post'
-      → Alike c (loadDone k r m t (loadLocation s a b) (viewOf₂ s a b) post s) (loadDone k r m t' (loadLocation s' a b) (viewOf₂ s' a b) post' s')
-  load-alike t t' post post' same low =
-      record {
-        same-position = ap (λ (n : ℕ). n + 1) (h .same-position);
-        same-promises = h .same-promises;
-        registers-long = length-set (s .registers) r _ ∙ h .registers-long ∙ sym (length-set (s' .registers) r _);
-        registers-agree = set-registers c s s' h (Load k r a b) g r load-writes _ _ (record { same = same .same; near = same .near; low = low });
-        coherence-long = length-raise (s .coherence) _ _ ∙ h .coherence-long ∙ sym (length-raise (s' .coherence) _ _);
-        coherence-low = subst (λ (l : ℕ). (j : ℕ) → viewAt (raiseAt (s .coherence) l post) j ≤ viewAt (raiseAt (s' .coherence) (loadLocation s' a b) post') j) (sym same-location)
-            (raise-both (s .coherence) (s' .coherence) (loadLocation s' a b) post post' (h .coherence-long) (h .coherence-low) low);
-        forward-long = h .forward-long;
-        forward-same = h .forward-same;
-        views-low = load-views-low k _ _ post post' (s .views) (s' .views) (operands-low c s s' h a b) low (h .views-low);
-      }
-
-  view-here : (t : ℕ) → readView s (loadLocation s a b) t ≤ readView s' (loadLocation s' a b) t
-  view-here t =
-      subst (λ (l : ℕ). readView s l t ≤ readView s' (loadLocation s' a b) t) (sym same-location)
-      (let f = h .forward-same (loadLocation s' a b) in view-low t _ _ _ _ (f .0) (f .1))
 
   load-follows : (t : ℕ) → T (readable m (loadLocation s' a b) t) → T (noneNewer m (loadLocation s' a b) t (max (loadPreView k s' a b) (viewAt (s' .coherence) (loadLocation s' a b))))
       → Followed c m t s (Load k r a b) (loadDone k r m t (loadLocation s' a b) (viewOf₂ s' a b) (loadPostView k s' a b t) s')
   load-follows t d n =
       record {
         after = loadDone k r m t (loadLocation s a b) (viewOf₂ s a b) (loadPostView k s a b t) s;
-        does = loaded (subst (λ (l : ℕ). T (readable m l t)) (sym same-location) d)
-            (subst (λ (l : ℕ). T (noneNewer m l t (max (loadPreView k s a b) (viewAt (s .coherence) l)))) (sym same-location)
-            (none-newer-low m (loadLocation s' a b) t t _ _ (le-refl t) (max-low _ _ _ _ pre-view-low (h .coherence-low (loadLocation s' a b))) n));
-        alike = load-alike t t _ _ (record { same = λ l. refl; near = λ l. refl }) (max-low _ _ _ _ pre-view-low (view-here t));
+        does = load-effect s s' (h .under) a b same-location k r m t d n;
+        alike = record {
+          under = load-under s s' (h .under) a b same-location k r m t t _ _ (post-low s s' (h .under) a b same-location k t t (read-low s s' (h .under) a b same-location t));
+          registers-agree = set-registers c s s' h (Load k r a b) g r load-writes _ _ (record { same = λ l. refl; near = λ l. refl });
+        };
       }
 
 module _ (c : Code) (s s' : Thread) (h : Alike c s s') (k : StoreMode) (a d : Operand) (g : instrAt c (s' .position) ≡ some (Store k a d)) where
@@ -153,9 +106,6 @@ module _ (c : Code) (s s' : Thread) (h : Alike c s s') (k : StoreMode) (a d : Op
   unfolding weighs
   same-data = operand-same c s s' h d (λ j t. here (Store k a d) g t)
 
-  store-view-low : storePre k (viewOf s a) (viewOf s d) (s .views) ≤ storePre k (viewOf s' a) (viewOf s' d) (s' .views)
-  store-view-low = store-pre-low k _ _ _ _ (s .views) (s' .views) (operand-low c s s' h a) (operand-low c s s' h d) (h .views-low)
-
   store-writes : (j : ℕ) → T (writes j (Store k a d)) → ⊥
   unfolding writes
   store-writes j t = t
@@ -165,28 +115,10 @@ module _ (c : Code) (s s' : Thread) (h : Alike c s s') (k : StoreMode) (a d : Op
   store-follows m t p low below =
       record {
         after = storeDone k t (storeLocation s a) (viewOf s a) (viewOf s d) s;
-        does = stored
-            (record {
-              out = subst (λ (q : ℕ). T (has q t)) (sym (h .same-promises)) (p .out);
-              in-memory = p .in-memory;
-              at-location = p .at-location ∙ sym same-place;
-              at-value = p .at-value ∙ sym same-data;
-            })
-            (lt-of-le-of-lt store-view-low low)
-            (subst (λ (l : ℕ). viewAt (s .coherence) l < t) (sym same-place) (lt-of-le-of-lt (h .coherence-low (storeLocation s' a)) below));
+        does = store-effect s s' (h .under) k a d same-place m t same-data p low below;
         alike = record {
-          same-position = ap (λ (n : ℕ). n + 1) (h .same-position);
-          same-promises = ap (λ (q : ℕ). without q t) (h .same-promises);
-          registers-long = h .registers-long;
+          under = store-under s s' (h .under) k a d same-place t;
           registers-agree = λ j. kept-register c s s' h (Store k a d) g (s' .position + 1) (inl refl) j (store-writes j);
-          coherence-long = length-raise (s .coherence) _ _ ∙ h .coherence-long ∙ sym (length-raise (s' .coherence) _ _);
-          coherence-low = subst (λ (l : ℕ). (j : ℕ) → viewAt (raiseAt (s .coherence) l t) j ≤ viewAt (raiseAt (s' .coherence) (storeLocation s' a) t) j) (sym same-place)
-              (raise-both (s .coherence) (s' .coherence) (storeLocation s' a) t t (h .coherence-long) (h .coherence-low) (le-refl t));
-          forward-long = length-set (s .forward) _ _ ∙ h .forward-long ∙ sym (length-set (s' .forward) _ _);
-          forward-same = subst (λ (l : ℕ). (j : ℕ) → Forwarded (set (s .forward) l (record { time = t; view = max (viewOf s a) (viewOf s d) })) (set (s' .forward) (storeLocation s' a) (record { time = t; view = max (viewOf s' a) (viewOf s' d) })) j) (sym same-place)
-              (set-both (λ (j : ℕ) (x y : Forward). (x .time ≡ y .time) × (x .view ≤ y .view)) freshForward _ _ (s .forward) (s' .forward) (storeLocation s' a) (h .forward-long) (λ j n. h .forward-same j) (refl, le-refl 0)
-              (refl, operands-low c s s' h a d));
-          views-low = store-views-low k t _ _ (s .views) (s' .views) (operand-low c s s' h a) (h .views-low);
         };
       }
 
@@ -207,16 +139,8 @@ module _ (c : Code) (s s' : Thread) (h : Alike c s s') where
         after = computeDone k r a b s;
         does = computed e;
         alike = record {
-          same-position = ap (λ (n : ℕ). n + 1) (h .same-position);
-          same-promises = h .same-promises;
-          registers-long = length-set (s .registers) r _ ∙ h .registers-long ∙ sym (length-set (s' .registers) r _);
-          registers-agree = set-registers c s s' h (Compute k r a b) g r (λ j u. sym (eqb→eq r j u)) _ _
-              (record { same = same-result k r a b g; near = λ l. ap address (same-result k r a b g l); low = operands-low c s s' h a b });
-          coherence-long = h .coherence-long;
-          coherence-low = h .coherence-low;
-          forward-long = h .forward-long;
-          forward-same = h .forward-same;
-          views-low = h .views-low;
+          under = compute-under s s' (h .under) k r a b;
+          registers-agree = set-registers c s s' h (Compute k r a b) g r (λ j u. sym (eqb→eq r j u)) _ _ (record { same = same-result k r a b g; near = λ l. ap address (same-result k r a b g l) });
         };
       }
 
@@ -249,15 +173,8 @@ module _ (c : Code) (s s' : Thread) (h : Alike c s s') where
         after = branchDone n a b s;
         does = branched e;
         alike = record {
-          same-position = ap₂ (λ (i j : ℕ). i + j) (h .same-position) (same-way n a b g);
-          same-promises = h .same-promises;
-          registers-long = h .registers-long;
+          under = branch-under s s' (h .under) n a b (same-way n a b g);
           registers-agree = λ j. kept-register c s s' h (Branch n a b) g _ (branch-next (eqb (valueOf s' a) (valueOf s' b)) n a b) j (λ u. u);
-          coherence-long = h .coherence-long;
-          coherence-low = h .coherence-low;
-          forward-long = h .forward-long;
-          forward-same = h .forward-same;
-          views-low = cap-views-low _ _ (s .views) (s' .views) (operands-low c s s' h a b) (h .views-low);
         };
       }
 
@@ -268,15 +185,8 @@ module _ (c : Code) (s s' : Thread) (h : Alike c s s') where
         after = fenceDone k s;
         does = fenced e;
         alike = record {
-          same-position = ap (λ (n : ℕ). n + 1) (h .same-position);
-          same-promises = h .same-promises;
-          registers-long = h .registers-long;
+          under = fence-under s s' (h .under) k;
           registers-agree = λ j. kept-register c s s' h (Fence k) g (s' .position + 1) (inl refl) j (λ u. u);
-          coherence-long = h .coherence-long;
-          coherence-low = h .coherence-low;
-          forward-long = h .forward-long;
-          forward-same = h .forward-same;
-          views-low = fence-views-low k (s .views) (s' .views) (h .views-low);
         };
       }
 
@@ -288,34 +198,8 @@ module _ (c : Code) (s s' : Thread) (h : Alike c s s') where
   follows {m} {t} g (fenced {k} e) = fence-follows k m t g e
 
 -- ---- certification
--- a thread is alike to itself
-alike-self : (c : Code) (s : Thread) → Alike c s s
-alike-self c s =
-    record {
-      same-position = refl;
-      same-promises = refl;
-      registers-long = refl;
-      registers-agree = λ k. agree-self c k _ _;
-      coherence-long = refl;
-      coherence-low = λ l. le-refl _;
-      forward-long = refl;
-      forward-same = λ l. (refl, le-refl _);
-      views-low = record { rOld-low = le-refl _; wOld-low = le-refl _; rNew-low = le-refl _; wNew-low = le-refl _; cap-low = le-refl _; rel-low = le-refl _ };
-    }
-
 with-promise : {c : Code} {s s' : Thread} (m : Memory) → Alike c s s' → Alike c (addPromise m s) (addPromise m s')
-with-promise m h =
-    record {
-      same-position = h .same-position;
-      same-promises = ap (λ (p : ℕ). with p (m .count)) (h .same-promises);
-      registers-long = h .registers-long;
-      registers-agree = h .registers-agree;
-      coherence-long = h .coherence-long;
-      coherence-low = h .coherence-low;
-      forward-long = h .forward-long;
-      forward-same = h .forward-same;
-      views-low = h .views-low;
-    }
+with-promise m h = record { under = promise-under m (h .under); registers-agree = h .registers-agree }
 
 -- the message of a store is the same
 pub same-message : (c : Code) (i : ℕ) (s s' : Thread) → Alike c s s' → (x : Instr) → instrAt c (s' .position) ≡ some x → messageOf i s x ≡ messageOf i s' x
@@ -331,31 +215,13 @@ pub comes-alike : {Goal : Memory → Thread → Type 0} {Room : Memory → Type 
 comes-alike pass {m} {s} {s'} h (done e) = done (pass m s s' h e)
 comes-alike {c = c} pass {m} {s} {s'} h (by x t u g tl e r) =
     let w = follows c s s' h g (effect x m t s' u e) in
-    by x t (w .after) (ap (instrAt c) (h .same-position) ∙ g) tl (executes (w .does)) (comes-alike pass (w .alike) r)
+    by x t (w .after) (ap (instrAt c) (h .under .same-position) ∙ g) tl (executes (w .does)) (comes-alike pass (w .alike) r)
 comes-alike {c = c} {i} pass {m} {s} {s'} h (own x w u g gw room e r) =
     let m' = append m w in
     let f = follows c (addPromise m' s) (addPromise m' s') (with-promise m' h) g (effect x m' (m' .count) (addPromise m' s') u e) in
-    own x w (f .after) (ap (instrAt c) (h .same-position) ∙ g) (same-message c i s s' h x g ∙ gw) room (executes (f .does)) (comes-alike pass (f .alike) r)
+    own x w (f .after) (ap (instrAt c) (h .under .same-position) ∙ g) (same-message c i s s' h x g ∙ gw) room (executes (f .does)) (comes-alike pass (f .alike) r)
 
 -- so it is for certification
 pub monotone : (c : Code) (i : ℕ) (m : Memory) (s s' : Thread) → Alike c s s' → T (certified c i m s') → T (certified c i m s)
 monotone c i m s s' h t =
-    certified-iff c i m s .1 (comes-alike (λ m u u' a e. a .same-promises ∙ e) h (certified-iff c i m s' .0 t))
-
--- ---- tries of a load at two times
-module _ (c : Code) (m : Memory) (s : Thread) (k : LoadMode) (r : ℕ) (a b : Operand) (at : instrAt c (s .position) ≡ some (Load k r a b)) where
-  -- a load that executes at f executes at each later time that can be read
-  pub later-done : (f u : ℕ) (s' : Thread) → execute (Load k r a b) m f s ≡ next s' → f ≤ u → T (readable m (loadLocation s a b) u)
-      → execute (Load k r a b) m u s ≡ next (loadDone k r m u (loadLocation s a b) (viewOf₂ s a b) (loadPostView k s a b u) s)
-  later-done f u s' e l d = go s' (effect (Load k r a b) m f s s' e)
-    where
-      go : (x : Thread) → Effect m f s (Load k r a b) x → execute (Load k r a b) m u s ≡ next (loadDone k r m u (loadLocation s a b) (viewOf₂ s a b) (loadPostView k s a b u) s)
-      go x (loaded d' q) = executes (loaded {k = k} {r = r} {a = a} {b = b} d (none-newer-low m (loadLocation s a b) u f _ _ l (le-refl _) q))
-
-  -- A TRY IN VAIN: what u reads is the same as what t reads, as far as it matters, and its read view is no larger; then what t leaves is alike to what u leaves, with larger views
-  pub in-vain : (u t : ℕ) (s' : Thread) → Matches c m r (s .position + 1) u t → readView s (loadLocation s a b) u ≤ readView s (loadLocation s a b) t → execute (Load k r a b) m t s ≡ next s'
-      → Alike c (loadDone k r m u (loadLocation s a b) (viewOf₂ s a b) (loadPostView k s a b u) s) s'
-  in-vain u t s' same low e = go s' (effect (Load k r a b) m t s s' e)
-    where
-      go : (x : Thread) → Effect m t s (Load k r a b) x → Alike c (loadDone k r m u (loadLocation s a b) (viewOf₂ s a b) (loadPostView k s a b u) s) x
-      go x (loaded d q) = load-alike c s s (alike-self c s) k r a b at m u t (loadPostView k s a b u) (loadPostView k s a b t) same (max-low _ _ _ _ (le-refl (loadPreView k s a b)) low)
+    certified-iff c i m s .1 (comes-alike (λ m u u' a e. a .under .same-promises ∙ e) h (certified-iff c i m s' .0 t))

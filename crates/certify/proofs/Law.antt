@@ -42,12 +42,12 @@ abbrev written : Thread → Operand → Operand → Write
 written s a d = record { location = address (valueIn (values s) a); value = valueIn (values s) d }
 
 -- time 0 holds 0
-read-none : (m : Memory) → readValue m 0 ≡ 0
+pub read-none : (m : Memory) → readValue m 0 ≡ 0
 unfolding readValue
 read-none m = refl
 
 -- a time that is not 0 holds the value of its message
-read-value : (m : Memory) (t : ℕ) → 0 < t → readValue m t ≡ (messageAt m t) .value
+pub read-value : (m : Memory) (t : ℕ) → 0 < t → readValue m t ≡ (messageAt m t) .value
 unfolding readValue
 read-value m t h = rw (ne-eqb t 0 (λ e. omega arith))
 

@@ -14,6 +14,7 @@ use Rattle.source.proofs.Tests.{and-left, and-right, and-both, below-at, below-
 use Rattle.machine.specs.State.{messageAt, raiseCap}
 use Rattle.machine.specs.Rules.{address, loadPre, noneNewer, newer, ifAcquire, loadViews, storePre, ifRelease, storeViews, fenceViews}
 use Rattle.certify.specs.Below.{LoadMode, StoreMode, FenceMode, Memory, Views}
+use Rattle.certify.specs.Under.{Lower}
 use Rattle.source.specs.declared.LoadMode.the-variants.{PlainLoad, Acquire, WeakAcquire}
 use Rattle.source.specs.declared.StoreMode.the-variants.{PlainStore, Release}
 use Rattle.source.specs.declared.FenceMode.the-variants.{DmbSy, DmbLd, DmbSt, Isb}
@@ -21,15 +22,6 @@ use Rattle.source.specs.declared.FenceMode.the-variants.{DmbSy, DmbLd, DmbSt, I
 -- views of two lists raised at one place
 pub raise-both : (c d : List ℕ) (i v w : ℕ) → length c ≡ length d → ((k : ℕ) → viewAt c k ≤ viewAt d k) → v ≤ w → (k : ℕ) → viewAt (raiseAt c i v) k ≤ viewAt (raiseAt d i w) k
 raise-both c d i v w e h l = set-both (λ j x y. x ≤ y) 0 _ _ c d i e (λ k n. h k) (le-refl 0) (let q = h i in omega arith)
-
--- ---- the six views
-pub record Lower (v w : Views) : Type 0 where
-  pub rOld-low : v .rOld ≤ w .rOld
-  pub wOld-low : v .wOld ≤ w .wOld
-  pub rNew-low : v .rNew ≤ w .rNew
-  pub wNew-low : v .wNew ≤ w .wNew
-  pub cap-low : v .cap ≤ w .cap
-  pub rel-low : v .rel ≤ w .rel
 
 -- ---- what the rules compute, with smaller views
 pub near-sum : (a a' b b' : ℕ) → address a ≡ address a' → address b ≡ address b' → address (a + b) ≡ address (a' + b')

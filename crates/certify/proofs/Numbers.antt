@@ -20,15 +20,6 @@ not-both false t z = t
 pub least-none : (from best : ℕ) (P : ℕ → Type 0) → ((k : ℕ) → from ≤ k → k < best → P k → ⊥) → Least from best P best
 least-none from best P h = record { better = record { low = le-refl best; hit = λ l. absurd (omega arith) }; least = h }
 
--- nothing is sought
-pub least-empty : (from best : ℕ) (P : ℕ → Type 0) → best ≤ from → Least from best P best
-least-empty from best P h = least-none from best P (λ k a b p. omega arith)
-
--- what passes for one test passes for another, and the other way round
-pub least-as : (from best : ℕ) (P Q : ℕ → Type 0) (r : ℕ) → ((k : ℕ) → P k → Q k) → ((k : ℕ) → Q k → P k) → Least from best P r → Least from best Q r
-least-as from best P Q r f g l =
-    record { better = record { low = l .better .low; hit = λ h. let q = l .better .hit h in (q .0, f r (q .1)) }; least = λ k a b q. l .least k a b (g k q) }
-
 -- what a number found leaves to be found
 pub better-on : {from best₀ best r : ℕ} {P : ℕ → Type 0} → Better from best₀ P best → Better from best P r → Better from best₀ P r
 better-on {from} {best₀} {best} {r} {P} f g =

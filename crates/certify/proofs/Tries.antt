@@ -1,65 +1,71 @@
--- What the code of the tries relies on, on plain values.
+-- What the code of the tries relies on, on plain values: times that are in vain, and what is noted of a try.
 -- Assumes nothing.
-use mathlib.Core.Path.{_≡_, sym, _∙_, subst, subst₂}
-use mathlib.Core.Bool.{Bool, true, false}
+use mathlib.Core.Path.{_≡_, refl, sym, ap, subst, subst₂, _∙_}
+use mathlib.Core.Bool.{false, cond}
+use mathlib.Core.List.{List}
 use Prim.Native.Nat.{ℕ, _+_, _≤_, _<_}
-use native.Mathlib.Omega.{arith}
-use lib.Dec.{T}
-use Rattle.source.proofs.Counts.{there}
-use Rattle.live.specs.Live.{Live}
-use Rattle.machine.specs.Rules.{valueOf, address, readable, readValue, readView}
-use Rattle.certify.specs.Below.{Code, Operand, LoadMode, Instr, Load, Memory, Thread}
-use Rattle.certify.specs.Answers.{Trying}
-use Rattle.certify.specs.Tries.{Matches, Grain, Vain, Doubled}
+use lib.Dec.{T, eqb}
+use lib.ListN.{length, getD, set}
+use Rattle.source.proofs.Arrays.{getD-any}
+use Rattle.machine.specs.State.{freshForward}
+use Rattle.machine.specs.Rules.{valueOf, address, readValue}
+use Rattle.cares.specs.Cares.{Agrees, careOf, Agreeing, AgreeingBut, Covers}
+use Rattle.cares.specs.declared.Cares.{Cares}
+use Rattle.certify.specs.Below.{Operand, LoadMode, StoreMode, Instr, Load, Store, Memory, Forward, Thread}
+use Rattle.certify.specs.Sought.{Reached, Tried, Noted}
+use Rattle.certify.specs.Tries.{Doubled, Vain}
+use Rattle.certify.proofs.Asking.{is-tried, load-same, load-not-store}
 
-module _ (m : Memory) (s : Thread) (l g f t u : ℕ) where
-  -- time u is such a time, by what the code read
-  pub doubled-here : f ≤ u → u < t → (b : Bool) → b ≡ readable m l u → b ≡ true → (v w : ℕ) → v ≡ readView s l u → w ≡ readView s l t → v ≤ w
-      → (x y : ℕ) → x ≡ readValue m u → y ≡ readValue m t → (2 ≤ g → x ≡ y) × (1 ≤ g → address x ≡ address y) → Doubled m s l g f t
-  doubled-here fu ut b e ok v w ve we le x y xe ye same =
-      record {
-        time = u;
-        from = fu;
-        before = ut;
-        reads = subst T (sym (sym e ∙ ok)) tt;
-        low = subst₂ (λ (p q : ℕ). p ≤ q) ve we le;
-        same = λ z. subst₂ (λ (p q : ℕ). p ≡ q) xe ye (same .0 z);
-        near = λ z. subst₂ (λ (p q : ℕ). address p ≡ address q) xe ye (same .1 z);
-      }
-
--- a load with such a time before t is tried at t in vain
-pub load-vain : (m : Memory) (s : Thread) (x : Instr) (k : LoadMode) (r : ℕ) (a b : Operand) → x ≡ Load k r a b → (l : ℕ) → l ≡ address (valueOf s a + valueOf s b) → (g f t : ℕ)
-    → Doubled m s l g f t → Vain m s x g f t
-load-vain m s x k r a b is l at g f t d = record { mode = k; register = r; a = a; b = b; is-load = is; doubled = subst (λ (j : ℕ). Doubled m s j g f t) at d }
-
--- what it reads matches, if the grain is right
-pub vain-matches : (c : Code) (m : Memory) (s : Thread) (x : Instr) (g f t : ℕ) → Grain c s x g → (v : Vain m s x g f t) → Matches c m (v .register) (s .position + 1) (v .doubled .time) t
-vain-matches c m s x g f t h v =
+-- ---- times in vain
+-- time u is such a time, by what the code read: the forward pair of the location, what counted, the views and the values
+pub doubled-here : (m : Memory) (s : Thread) (l : ℕ) (counted : List ℕ) (t u : ℕ) → u < t → u < length counted
+    → (pair : Forward) → pair ≡ getD (s .forward) l freshForward → (v w : ℕ) → v ≡ cond (eqb u (pair .time)) (pair .view) u → w ≡ cond (eqb t (pair .time)) (pair .view) t
+    → (x y : ℕ) → x ≡ readValue m u → y ≡ readValue m t → (getD counted u 0 ≡ 3 → ⊥) × ((v ≤ w) × Agrees (getD counted u 0) x y) → Doubled m s l counted t
+doubled-here m s l counted t u ut ul pair pe v w ve we x y xe ye h =
+    let e = getD-any 0 3 counted u ul in
     record {
-      same = λ live. v .doubled .same (h .value (v .mode) (v .register) (v .a) (v .b) (v .is-load) live);
-      near = λ live. v .doubled .near (h .place (v .mode) (v .register) (v .a) (v .b) (v .is-load) live);
+      time = u;
+      before = ut;
+      tried = λ z. h .0 (e ∙ z);
+      low = subst (λ (p : Forward). cond (eqb u (p .time)) (p .view) u ≤ cond (eqb t (p .time)) (p .view) t) pe (subst₂ (λ (p q : ℕ). p ≤ q) ve we (h .1 .0));
+      alike = subst (λ (i : ℕ). Agrees i (readValue m u) (readValue m t)) e (subst₂ (λ (p q : ℕ). Agrees (getD counted u 0) p q) xe ye (h .1 .1));
     }
 
--- ---- the grain of a load
-load-same : (k k' : LoadMode) (r r' : ℕ) (a a' b b' : Operand) → Load k r a b ≡ Load k' r' a' b' → r ≡ r'
-load-same k k' r r' a a' b b' e = cc
+-- a load with such a time before t is tried at t in vain
+pub load-vain : (m : Memory) (s : Thread) (x : Instr) (k : LoadMode) (r : ℕ) (a b : Operand) → x ≡ Load k r a b → (l : ℕ) → l ≡ address (valueOf s a + valueOf s b)
+    → (counted : List ℕ) (t : ℕ) → Doubled m s l counted t → Vain m s x counted t
+load-vain m s x k r a b is l at counted t d = record { mode = k; register = r; a = a; b = b; is-load = is; doubled = subst (λ (j : ℕ). Doubled m s j counted t) at d }
 
-module _ (c : Code) (s : Thread) (x : Instr) where
-  -- 3 is always right, and so is any number for what is no load
-  pub grain-other : Grain c s x 3
-  grain-other = record { value = λ k r a b is live. omega arith; place = λ k r a b is live. omega arith }
+-- ---- what is noted
+module _ (x : Instr) (t : ℕ) (p : Tried) (sub : Reached) where
+  -- of a load: what counted of its register, and the cares for the others
+  pub noted-load : (tries : ℕ) (k : LoadMode) (j : ℕ) (a b : Operand) → x ≡ Load k j a b → (n : ℕ) → n ≡ careOf (sub .cares .of) j
+      → (f : Cares) → ((s s' : Thread) → Agreeing (f .of) s s' → AgreeingBut (sub .cares .of) j s s')
+      → (g : Cares) → Covers (g .of) (f .of) × Covers (g .of) (p .cares .of)
+      → Noted x t p sub (record { best = sub .best; tries = tries; cares = g; counted = set (p .counted) t n })
+  noted-load tries k j a b is n ne f forgets g both =
+      record {
+        load = λ k' j' a' b' is'. let e = load-same k k' j j' a a' b b' (sym is ∙ is') .0 in (refl, ap (set (p .counted) t) (ne ∙ ap (careOf (sub .cares .of)) e), λ s s' h. subst (λ (i : ℕ). AgreeingBut (sub .cares .of) i s s') e (forgets s s' (both .0 .agreeing s s' h)));
+        store = λ k' a' d' is'. absurd (load-not-store k k' j a a' b d' (sym is ∙ is'));
+        covers = both .1;
+      }
 
-  module _ (k : LoadMode) (r : ℕ) (a b : Operand) (is : x ≡ Load k r a b) where
-    pub grain-load : (g n : ℕ) → n ≡ s .position + 1 → (Live c true r n → 2 ≤ g) → (Live c false r n → 1 ≤ g) → Grain c s x g
-    grain-load g n e value place =
-        record {
-          value = λ k' r' a' b' is' live. value (at r' (load-same _ _ _ _ _ _ _ _ (sym is' ∙ is)) live);
-          place = λ k' r' a' b' is' live. place (at r' (load-same _ _ _ _ _ _ _ _ (sym is' ∙ is)) live);
-        }
-      where
-        at : {v : Bool} (r' : ℕ) → r' ≡ r → Live c v r' (s .position + 1) → Live c v r n
-        at {v} r' q live = subst₂ (Live c v) q (sym e) live
+  -- of a store: all cares
+  pub noted-store : (tries : ℕ) (k : StoreMode) (a d : Operand) → x ≡ Store k a d
+      → (g : Cares) → Covers (g .of) (sub .cares .of) × Covers (g .of) (p .cares .of)
+      → Noted x t p sub (record { best = sub .best; tries = tries; cares = g; counted = p .counted })
+  noted-store tries k a d is g both =
+      record {
+        load = λ k' j' a' b' is'. absurd (load-not-store k' k j' a' a b' d (sym is' ∙ is));
+        store = λ k' a' d' is'. (refl, refl, both .0 .agreeing);
+        covers = both .1;
+      }
 
--- the position after the instruction is within the code
-pub next-within : (c : Code) (m : Memory) (s : Thread) (x : Instr) → Trying c m s x → s .position + 1 ≤ 16
-next-within c m s x w = let l = there c (s .position) x (w .is-next) .0 in let h = w .ready .code-ok .short in omega arith
+  -- of what is neither: nothing
+  pub noted-other : is-tried x ≡ false → Noted x t p sub p
+  noted-other n =
+      record {
+        load = λ k j a b is. absurd (subst T (sym (ap is-tried is) ∙ n) tt);
+        store = λ k a d is. absurd (subst T (sym (ap is-tried is) ∙ n) tt);
+        covers = record { agreeing = λ s s' h. h };
+      }

@@ -2,5 +2,8 @@ pub mod Below
 pub mod Certify
 pub mod Runs
 pub mod Answers
+pub mod Under
+pub mod Straight
+pub mod Asks
 pub mod Tries
 pub mod Sought

@@ -2,19 +2,26 @@
 -- Assumes nothing.
 use mathlib.Core.Path.{_≡_}
 use mathlib.Core.Logic.{_⊎_}
-use mathlib.Core.Option.{some}
+use mathlib.Core.List.{List}
+use mathlib.Core.Option.{none, some}
 use Prim.Native.Nat.{ℕ, _+_, _-_, _*_, _≤_, _<_}
+use lib.Count.{ones}
 use lib.Dec.{T}
 use lib.ListN.{set}
 use Rattle.source.specs.Program.{instrAt}
+use Rattle.source.specs.Counts.{storesFrom}
 use Rattle.machine.specs.State.{append}
 use Rattle.machine.specs.Rules.{next, execute, addPromise}
-use Rattle.certify.specs.Below.{Code, Instr, Message, Memory, Thread}
+use Rattle.cares.specs.Cares.{careOf, Agreeing, AgreeingBut, Covers}
+use Rattle.certify.specs.Below.{Code, Operand, LoadMode, StoreMode, Instr, Load, Store, Message, Memory, Thread}
 use Rattle.certify.specs.Certify.{messageOf, onward, certified}
-use Rattle.certify.specs.Answers.{Ready}
+pub use Rattle.certify.specs.Asks.{Sought}
+use Rattle.certify.specs.Asks.{Asks}
 use Rattle.certify.specs.Runs.{Comes, Fewer}
-use Rattle.certify.specs.Tries.{Grain}
-pub use Rattle.certify.specs.declared.Sought.{Sought}
+use Rattle.certify.specs.Straight.{plainly}
+use Rattle.certify.specs.Tries.{countedAt, Vain}
+use Rattle.certify.specs.Under.{Rests}
+pub use Rattle.certify.specs.declared.reach.Reached.{Reached}
 pub use Rattle.certify.specs.declared.reach.Tried.{Tried}
 
 -- the memory with w in place of the message at time h
@@ -46,13 +53,6 @@ pub record Least (from best : ℕ) (P : ℕ → Type 0) (r : ℕ) : Type 0 where
 abbrev pub Meets : Code → ℕ → Memory → Thread → ℕ → ℕ → Type 0
 Meets c i m s h k = Comes (Aim c i h k) Fewer c i m s
 
--- r is s some instructions on, each of which had one way to go on: what the one comes to the other does
-pub record Straight (c : Code) (m : Memory) (s r : Thread) : Type 0 where
-  pub ready : Ready c m r
-  pub further : s .position ≤ r .position
-  pub there : (i h k : ℕ) → Meets c i m r h k → Meets c i m s h k
-  pub back : (i h k : ℕ) → Meets c i m s h k → Meets c i m r h k
-
 -- a store with its own message comes to it
 pub record Owns (c : Code) (i : ℕ) (m : Memory) (s : Thread) (x : Instr) (h k : ℕ) : Type 0 where
   pub message : Message
@@ -62,15 +62,41 @@ pub record Owns (c : Code) (i : ℕ) (m : Memory) (s : Thread) (x : Instr) (h k 
   pub does : execute x (append m message) ((append m message) .count) (addPromise (append m message) s) ≡ next after
   pub goes-on : Meets c i (append m message) after h k
 
--- what is known before time t: at no time before it does the instruction come to a number from `from` on and below the best one found; it executes at the first time noted, if one is noted; the grain is right
+-- best of r is the least number from `from` on and below best that passes for s, or best; and no thread in which is so what that rests on has a lesser one
+pub record Found (from best : ℕ) (P : Thread → ℕ → Type 0) (s : Thread) (r : Reached) : Type 0 where
+  pub better : Better from best (P s) (r .best)
+  pub barren : (s' : Thread) → Rests (r .cares .of) s s' → (k : ℕ) → from ≤ k → k < r .best → P s' k → ⊥
+
+-- nothing can come of a try at time t: it is in vain, or more promises are outstanding than stores are left
+abbrev pub Hopeless : Code → Memory → Thread → Instr → List ℕ → ℕ → Type 0
+Hopeless c m s x counted t = Vain m s x counted t ⊎ (storesFrom c (s .position) < ones (s .promises))
+
+-- what the try of a load into r at time u came to: it executed, and no thread in which is so what its failure rests on comes to a number from `from` on and below best; of register r that is what was noted, of the others it is among p
+pub record Failed (c : Code) (i : ℕ) (m : Memory) (s : Thread) (x : Instr) (q : Sought) (p : Tried) (r u : ℕ) : Type 0 where
+  pub after : Thread
+  pub does : execute x m u s ≡ next after
+  pub cares : List ℕ
+  pub noted : careOf cares r ≡ countedAt (p .counted) u
+  pub among : (s' : Thread) → Agreeing (p .cares .of) s s' → AgreeingBut cares r s s'
+  pub barren : (y : Thread) → Rests cares after y → (k : ℕ) → q .from ≤ k → k < p .best → Meets c i m y (q .hole) k → ⊥
+
+-- what is known before time t of the tries of a load or store: no thread in which is so what they rest on comes, by executing it before t, to a number from `from` on and below the best one found
 pub record Missed (c : Code) (i : ℕ) (m : Memory) (s : Thread) (x : Instr) (q : Sought) (p : Tried) (t : ℕ) : Type 0 where
-  pub executes : p .first ≤ 16 → (p .first < t) × (s' : Thread) × (execute x m (p .first) s ≡ next s')
-  pub failed : (u : ℕ) (s' : Thread) → u < t → execute x m u s ≡ next s' → (k : ℕ) → q .from ≤ k → k < p .best → Meets c i m s' (q .hole) k → ⊥
-  pub grained : Grain c s x (p .grain)
+  pub halting : plainly x s ≡ none
+  pub asked : Asks x m s (p .cares .of)
+  pub missed : (u : ℕ) (s' y : Thread) → u < t → Rests (p .cares .of) s s' → execute x m u s' ≡ next y → (k : ℕ) → q .from ≤ k → k < p .best → Meets c i m y (q .hole) k → ⊥
+  pub failed : (k : LoadMode) (r : ℕ) (a b : Operand) → x ≡ Load k r a b → (u : ℕ) → (countedAt (p .counted) u ≡ 3 → ⊥) → Failed c i m s x q p r u
 
 -- what the try at time t makes of it
 pub record Went (c : Code) (i : ℕ) (m : Memory) (s : Thread) (x : Instr) (q : Sought) (p : Tried) (t : ℕ) (r : Tried) : Type 0 where
   pub better : Better (q .from) (p .best) (Meets c i m s (q .hole)) (r .best)
-  pub executes : r .first ≤ 16 → (r .first ≤ t) × (s' : Thread) × (execute x m (r .first) s ≡ next s')
-  pub failed : (s' : Thread) → execute x m t s ≡ next s' → (k : ℕ) → q .from ≤ k → k < r .best → Meets c i m s' (q .hole) k → ⊥
-  pub grained : Grain c s x (r .grain)
+  pub covers : Covers (r .cares .of) (p .cares .of)
+  pub known : Missed c i m s x q r (t + 1)
+
+-- what is noted of a try at time t
+pub record Noted (x : Instr) (t : ℕ) (p : Tried) (sub : Reached) (r : Tried) : Type 0 where
+  pub load : (k : LoadMode) (j : ℕ) (a b : Operand) → x ≡ Load k j a b
+      → (r .best ≡ sub .best) × (r .counted ≡ set (p .counted) t (careOf (sub .cares .of) j)) × ((s s' : Thread) → Agreeing (r .cares .of) s s' → AgreeingBut (sub .cares .of) j s s')
+  pub store : (k : StoreMode) (a d : Operand) → x ≡ Store k a d
+      → (r .best ≡ sub .best) × (r .counted ≡ p .counted) × ((s s' : Thread) → Agreeing (r .cares .of) s s' → Agreeing (sub .cares .of) s s')
+  pub covers : Covers (r .cares .of) (p .cares .of)

@@ -1,38 +1,30 @@
 -- Tries of one instruction at times in turn: when a further one is in vain.
 -- Assumes nothing.
 use mathlib.Core.Path.{_≡_}
-use mathlib.Core.Bool.{true, false}
+use mathlib.Core.List.{List}
 use Prim.Native.Nat.{ℕ, _+_, _≤_, _<_}
-use lib.Dec.{T}
-use Rattle.live.specs.Live.{Live}
-use Rattle.machine.specs.Rules.{valueOf, address, readable, readValue, readView}
-use Rattle.certify.specs.Below.{Code, Operand, LoadMode, Instr, Load, Memory, Thread}
+use lib.ListN.{getD}
+use Rattle.machine.specs.Rules.{valueOf, address, readValue, readView}
+use Rattle.cares.specs.Cares.{Agrees}
+use Rattle.certify.specs.Below.{Operand, LoadMode, Instr, Load, Memory, Thread}
 
--- what is read at time u is the same as at time t, as far as it matters in register r at position n
-pub record Matches (c : Code) (m : Memory) (r n u t : ℕ) : Type 0 where
-  pub same : Live c true r n → readValue m u ≡ readValue m t
-  pub near : Live c false r n → address (readValue m u) ≡ address (readValue m t)
+-- how much of what the load left in its register counted after the try at time u; 3 where it was not tried
+abbrev pub countedAt : List ℕ → ℕ → ℕ
+countedAt counted u = getD counted u 3
 
--- if the instruction is a load: 2 or more if its register is then live as a value, 1 or more if as a location
-pub record Grain (c : Code) (s : Thread) (x : Instr) (g : ℕ) : Type 0 where
-  pub value : (k : LoadMode) (r : ℕ) (a b : Operand) → x ≡ Load k r a b → Live c true r (s .position + 1) → 2 ≤ g
-  pub place : (k : LoadMode) (r : ℕ) (a b : Operand) → x ≡ Load k r a b → Live c false r (s .position + 1) → 1 ≤ g
-
--- a time from f up to t, t left out, that can be read at l with a view no larger than t's and a value that matches by the grain g
-pub record Doubled (m : Memory) (s : Thread) (l g f t : ℕ) : Type 0 where
+-- a time before t that was tried at l, with a view no larger than t's and a value that is the same as far as it counted
+pub record Doubled (m : Memory) (s : Thread) (l : ℕ) (counted : List ℕ) (t : ℕ) : Type 0 where
   pub time : ℕ
-  pub from : f ≤ time
   pub before : time < t
-  pub reads : T (readable m l time)
+  pub tried : countedAt counted time ≡ 3 → ⊥
   pub low : readView s l time ≤ readView s l t
-  pub same : 2 ≤ g → readValue m time ≡ readValue m t
-  pub near : 1 ≤ g → address (readValue m time) ≡ address (readValue m t)
+  pub alike : Agrees (countedAt counted time) (readValue m time) (readValue m t)
 
 -- the instruction is a load, and there is such a time for its location
-pub record Vain (m : Memory) (s : Thread) (x : Instr) (g f t : ℕ) : Type 0 where
+pub record Vain (m : Memory) (s : Thread) (x : Instr) (counted : List ℕ) (t : ℕ) : Type 0 where
   pub mode : LoadMode
   pub register : ℕ
   pub a : Operand
   pub b : Operand
   pub is-load : x ≡ Load mode register a b
-  pub doubled : Doubled m s (address (valueOf s a + valueOf s b)) g f t
+  pub doubled : Doubled m s (address (valueOf s a + valueOf s b)) counted t

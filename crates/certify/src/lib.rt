@@ -1,4 +1,5 @@
 // Certification of one thread: alone on the memory, by executing instructions, it can reach an empty promise set.
+mod asks;
 mod checked;
 pub mod reach;
 mod straight;

@@ -1,27 +1,31 @@
-// What the runs of a thread alone come to: one search of them, times ascending, for all that asks.
+// What the runs of a thread alone come to: one search of them, times ascending, for all that asks; and what a failure rests on.
 ghost use mathlib.Core.Path.{_≡_};
-ghost use Prim.Native.Nat.{_+_, _≤_, _<_};
+ghost use mathlib.Core.Bool.{true};
+ghost use Prim.Native.Nat.{_≤_, _<_};
 ghost use lib.Count.{ones};
-ghost use lib.Dec.{ltb};
+ghost use lib.Dec.{T, ltb};
 ghost use Rattle.source.specs.Counts.{storesFrom};
-ghost use Rattle.source.proofs.Formed.{CodeOk};
-ghost use Rattle.machine.specs.Rules.{next, execute};
+ghost use Rattle.machine.specs.Rules.{execute};
+ghost use Rattle.cares.specs.Cares.{Covers};
 ghost use Rattle.certify.specs.Certify.{onward, certified};
 ghost use Rattle.certify.specs.Answers.{Ready, Trying};
-ghost use Rattle.certify.specs.Tries.{Grain};
-ghost use Rattle.certify.specs.Sought.{fill, Fills, Least, Meets, Owns, Missed, Went};
+ghost use Rattle.certify.specs.Asks.{Asks, FillsSame, Settles};
+ghost use Rattle.certify.specs.Sought.{fill, Fills, Least, Meets, Owns, Found, Hopeless, Missed, Went, Noted};
 use crate::Sought;
+use crate::asks::asks;
 use crate::own_message;
+use crate::straight::before_straight;
 use crate::straight::straight;
-use crate::vain::grain;
 use crate::vain::in_vain;
 use crate::window::earliest;
 use crate::window::following;
+use cares::Cares;
 use live::fewer_stores;
 use machine::Memory;
 use machine::Message;
 use machine::RuleAnswer;
 use machine::Thread;
+use machine::merge::smaller;
 use machine::promises::has;
 use machine::promises::is_empty;
 use rules::execute;
@@ -31,12 +35,19 @@ use source::Code;
 use source::Instr;
 use stores::below_time;
 
-// After some tries of an instruction: the least number met; the first time at which the instruction executed, or 255; how much of what a
-// load leaves in its register matters, or 3 where nobody has asked.
+// The least number met, or the bound below which none was; and what it rests on that none below it is met.
+pub struct Reached {
+    pub best: u16,
+    pub cares: Cares,
+}
+
+// After some tries of an instruction: the least number met; how many were made, two for more; what they rest on; and for each time at which a
+// load was tried how much of what it left in its register counted, 3 for the others.
 pub struct Tried {
     pub best: u16,
-    pub first: u8,
-    pub grain: u8,
+    pub tries: u8,
+    pub cares: Cares,
+    pub counted: [u16; 17],
 }
 
 // The number v, if it is sought.
@@ -85,15 +96,53 @@ fn fill(mut m: Memory, h: u8, w: Message) -> Memory
     m
 }
 
-// What is known of the grain, or the grain.
-fn grain_of(c: Code, s: Thread, x: Instr, known: u8) -> u8
-    requires { ⌜ CodeOk c × ((s .position + 1 ≤ 16) × Grain c s x known) ⌝ }
-    ensures { λ r. ⌜ Grain c s x r ⌝ }
+// Nothing can come of a try at time t: an earlier one has failed, and what it left differs in nothing that counted; or stores are too few for
+// all promises, which is asked after the first try.
+fn hopeless(c: Code, m: Memory, s: Thread, x: Instr, t: u8, p: Tried) -> bool
+    requires { ⌜ (c .count ≤ 16) × ((m .count ≤ 16) × (t ≤ 16)) ⌝ }
+    ensures { λ r. ⌜ (r ≡ true → Hopeless c m s x (p .counted) t) ⌝ }
 {
-    if known < 3 {
-        return known;
+    if p.tries == 0 {
+        return false;
     }
-    grain(c, s, x)
+    let counted = p.counted;
+    if in_vain(m, s, x, counted, t) {
+        return true;
+    }
+    if p.tries == 1 {
+        return crowded(c, s.position, s);
+    }
+    false
+}
+
+// What a try at time t adds to what is known.
+fn noted(x: Instr, t: u8, p: Tried, sub: Reached) -> Tried
+    requires { ⌜ t ≤ 16 ⌝ }
+    ensures { λ r. ⌜ Noted x t p sub r ⌝ }
+{
+    let before = p.cares;
+    let now = sub.cares;
+    let mut counted = p.counted;
+    match x {
+        Instr::Load(_, r, _, _) => {
+            counted[t as usize] = now.of_register(r);
+            Tried {
+                best: sub.best,
+                tries: smaller(p.tries, 1) + 1,
+                cares: now.forgetting(r).and(before),
+                counted: counted,
+            }
+        }
+        Instr::Store(_, _, _) => Tried {
+            best: sub.best,
+            tries: smaller(p.tries, 1) + 1,
+            cares: now.and(before),
+            counted: counted,
+        },
+        Instr::Compute(_, _, _, _) => p,
+        Instr::Branch(_, _, _) => p,
+        Instr::Fence(_) => p,
+    }
 }
 
 // The least number that a run from here comes to, if it is sought.
@@ -101,76 +150,139 @@ pub fn least_reached(c: Code, i: u8, m: Memory, s: Thread, q: Sought) -> u16
     requires { ⌜ Ready c m s ⌝ }
     ensures { λ r. ⌜ Least (q .from) (q .best) (Meets c i m s (q .hole)) r ⌝ }
 {
+    search_runs(c, i, m, s, q).best
+}
+
+// The same, and what it rests on that there is none below it.
+fn search_runs(c: Code, i: u8, m: Memory, s: Thread, q: Sought) -> Reached
+    requires { ⌜ Ready c m s ⌝ }
+    ensures { λ r. ⌜ Found (q .from) (q .best) (λ y k. Meets c i m y (q .hole) k) s r ⌝ }
+{
+    let nothing = Cares { of: [0; 8] };
     let y = straight(c, s);
     let now = kept(y, q);
     if now <= q.from {
-        return now;
+        return Reached {
+            best: now,
+            cares: nothing,
+        };
     }
     if c.count <= y.position {
-        return now;
+        return Reached {
+            best: now,
+            cares: before_straight(c, s, nothing),
+        };
     }
     let x = c.instr_at(y.position);
-    let here = filled(c, i, m, y, x, q.below(now));
+    let less = q.below(now);
+    let here = filled(c, i, m, y, x, less, asks(x, m, y, less));
     let mut t = earliest(x, m, y);
+    let asked = here.cares;
     let mut r = Tried {
-        best: here,
-        first: 255,
-        grain: 3,
+        best: here.best,
+        tries: 0,
+        cares: asked,
+        counted: [3; 17],
     };
     while t <= 16 {
         r = try_at(c, i, m, y, x, t, r, q);
         if r.best <= q.from {
-            return r.best;
+            return Reached {
+                best: r.best,
+                cares: nothing,
+            };
         }
         t = following(x, m, y, t);
     }
-    own_reached(c, i, m, y, x, q.below(r.best))
+    let own = own_reached(c, i, m, y, x, q.below(r.best), r.cares);
+    let rests = own.cares;
+    Reached {
+        best: own.best,
+        cares: before_straight(c, s, rests),
+    }
 }
 
 // The number of a store that fills the hole, if there is one and it is sought. Where the hole is the only promise, nothing is left to keep.
-fn filled(c: Code, i: u8, m: Memory, s: Thread, x: Instr, q: Sought) -> u16
-    requires { ⌜ Trying c m s x ⌝ }
-    ensures { λ r. ⌜ Least (q .from) (q .best) (λ k. Fills c i x (q .hole) k m s) r ⌝ }
+fn filled(c: Code, i: u8, m: Memory, s: Thread, x: Instr, q: Sought, k: Cares) -> Reached
+    requires { ⌜ Trying c m s x × (Asks x m s (k .of) × FillsSame x s q (k .of)) ⌝ }
+    ensures { λ r. ⌜ Found (q .from) (q .best) (λ y j. Fills c i x (q .hole) j m y) s r × Covers (r .cares .of) (k .of) ⌝ }
 {
     if !has(s.promises, q.hole) {
-        return q.best;
+        return Reached {
+            best: q.best,
+            cares: k,
+        };
     }
     match x {
-        Instr::Store(k, a, d) => {
+        Instr::Store(how, a, d) => {
             let w = own_message(i, a, d, s);
             let number = lowered(256 * w.location as u16 + w.value as u16, q);
             if q.best <= number {
-                return q.best;
+                return Reached {
+                    best: q.best,
+                    cares: k,
+                };
             }
             if u16::count_ones(s.promises) == 1 {
-                if below_time(k, q.hole, w.location, view_of(s, a), view_of(s, d), s) {
-                    return number;
+                if below_time(how, q.hole, w.location, view_of(s, a), view_of(s, d), s) {
+                    return Reached {
+                        best: number,
+                        cares: k,
+                    };
                 }
-                return q.best;
+                return Reached {
+                    best: q.best,
+                    cares: k,
+                };
             }
-            if keeps(c, i, fill(m, q.hole, w), s, x, q.hole) {
-                return number;
+            let then = keeps(c, i, fill(m, q.hole, w), s, x, q.hole, k);
+            if then.best == 0 {
+                return Reached {
+                    best: number,
+                    cares: k,
+                };
             }
-            q.best
+            let rests = then.cares;
+            Reached {
+                best: q.best,
+                cares: rests,
+            }
         }
-        Instr::Load(_, _, _, _) => q.best,
-        Instr::Compute(_, _, _, _) => q.best,
-        Instr::Branch(_, _, _) => q.best,
-        Instr::Fence(_) => q.best,
+        Instr::Load(_, _, _, _) => Reached {
+            best: q.best,
+            cares: k,
+        },
+        Instr::Compute(_, _, _, _) => Reached {
+            best: q.best,
+            cares: k,
+        },
+        Instr::Branch(_, _, _) => Reached {
+            best: q.best,
+            cares: k,
+        },
+        Instr::Fence(_) => Reached {
+            best: q.best,
+            cares: k,
+        },
     }
 }
 
-// The instruction can be executed at time t, and the thread is then certified.
-fn keeps(c: Code, i: u8, m: Memory, s: Thread, x: Instr, t: u8) -> bool
-    requires { ⌜ Trying c m s x ⌝ }
-    ensures { λ r. ⌜ r ≡ onward (certified c i m) (execute x m t s) ⌝ }
+// 0 if the store can be executed at time t, and the thread is then certified.
+fn keeps(c: Code, i: u8, m: Memory, s: Thread, x: Instr, t: u8, k: Cares) -> Reached
+    requires { ⌜ Trying c m s x × Settles x s (k .of) ⌝ }
+    ensures { λ r. ⌜ Found 0 1 (λ y j. T (onward (certified c i m) (execute x m t y))) s r × Covers (r .cares .of) (k .of) ⌝ }
 {
     let r = execute(x, m, t, s);
     let a = r.answer;
     let RuleAnswer::Done = a else {
-        return false;
+        return Reached { best: 1, cares: k };
     };
-    least_reached(c, i, m, r.thread, Sought::certified()) == 0
+    let then = search_runs(c, i, m, r.thread, Sought::certified());
+    let rests = then.cares;
+    Reached {
+        best: then.best,
+        cares: rests.and(k),
+    }
 }
 
 // The instruction is executed at time t, and the thread goes on from there. The tries before t have come to nothing, and have left p.
@@ -179,6 +291,9 @@ fn try_at(c: Code, i: u8, m: Memory, s: Thread, x: Instr, t: u8, p: Tried, q: So
     requires { ⌜ Trying c m s x × ((t ≤ 16) × Missed c i m s x q p t) ⌝ }
     ensures { λ r. ⌜ Went c i m s x q p t r ⌝ }
 {
+    if hopeless(c, m, s, x, t, p) {
+        return p;
+    }
     let r = execute(x, m, t, s);
     let a = r.answer;
     let RuleAnswer::Done = a else {
@@ -186,82 +301,58 @@ fn try_at(c: Code, i: u8, m: Memory, s: Thread, x: Instr, t: u8, p: Tried, q: So
     };
     let now = kept(r.thread, q.below(p.best));
     if now <= q.from {
+        let cares = p.cares;
+        let counted = p.counted;
         return Tried {
             best: now,
-            first: t,
-            grain: 3,
+            tries: p.tries,
+            cares: cares,
+            counted: counted,
         };
     }
-    if p.first <= 16 {
-        return try_again(c, i, m, s, x, t, p, q, r.thread);
-    }
-    Tried {
-        best: least_reached(c, i, m, r.thread, q.below(p.best)),
-        first: t,
-        grain: 3,
-    }
-}
-
-// A time after one that executed: it may be in vain.
-fn try_again(
-    c: Code,
-    i: u8,
-    m: Memory,
-    s: Thread,
-    x: Instr,
-    t: u8,
-    p: Tried,
-    q: Sought,
-    y: Thread,
-) -> Tried
-    requires { ⌜ Trying c m s x × ((p .first ≤ 16) × ((execute x m t s ≡ next y) × Missed c i m s x q p t)) ⌝ }
-    ensures { λ r. ⌜ Went c i m s x q p t r ⌝ }
-{
-    if crowded(c, s.position, s) {
-        return p;
-    }
-    let g = grain_of(c, s, x, p.grain);
-    if in_vain(m, s, x, g, p.first, t) {
-        return Tried {
-            best: p.best,
-            first: p.first,
-            grain: g,
-        };
-    }
-    Tried {
-        best: least_reached(c, i, m, y, q.below(p.best)),
-        first: p.first,
-        grain: g,
-    }
+    noted(x, t, p, search_runs(c, i, m, r.thread, q.below(p.best)))
 }
 
 // A store appends its own message and fulfils it at once, and the thread goes on from there.
-fn own_reached(c: Code, i: u8, m: Memory, s: Thread, x: Instr, q: Sought) -> u16
-    requires { ⌜ Trying c m s x ⌝ }
-    ensures { λ r. ⌜ Least (q .from) (q .best) (Owns c i m s x (q .hole)) r ⌝ }
+fn own_reached(c: Code, i: u8, m: Memory, s: Thread, x: Instr, q: Sought, k: Cares) -> Reached
+    requires { ⌜ Trying c m s x × Asks x m s (k .of) ⌝ }
+    ensures { λ r. ⌜ Found (q .from) (q .best) (λ y j. Owns c i m y x (q .hole) j) s r × Covers (r .cares .of) (k .of) ⌝ }
 {
+    let none = Reached {
+        best: q.best,
+        cares: k,
+    };
     if q.best <= q.from {
-        return q.best;
+        return none;
     }
     match x {
-        Instr::Store(k, a, d) => {
+        Instr::Store(how, a, d) => {
             if 16 <= m.count {
-                return q.best;
+                return none;
             }
             if crowded(c, s.position + 1, s) {
-                return q.best;
+                return none;
             }
-            let r = own_store(k, a, d, m, i, s);
+            let settled = k.noting(d, 2);
+            let r = own_store(how, a, d, m, i, s);
             let answer = r.answer;
             let RuleAnswer::Done = answer else {
-                return q.best;
+                return Reached {
+                    best: q.best,
+                    cares: settled,
+                };
             };
             let w = own_message(i, a, d, s);
-            least_reached(c, i, m.append(w), r.thread, q)
+            let then = search_runs(c, i, m.append(w), r.thread, q);
+            let rests = then.cares;
+            Reached {
+                best: then.best,
+                cares: rests.and(settled),
+            }
         }
-        Instr::Load(_, _, _, _) => q.best,
-        Instr::Compute(_, _, _, _) => q.best,
-        Instr::Branch(_, _, _) => q.best,
-        Instr::Fence(_) => q.best,
+        Instr::Load(_, _, _, _) => none,
+        Instr::Compute(_, _, _, _) => none,
+        Instr::Branch(_, _, _) => none,
+        Instr::Fence(_) => none,
     }
 }

@@ -1,90 +1,79 @@
-// Times at which a load need not be tried: an earlier one has left the thread no worse off.
+// Times at which a load need not be tried: an earlier one has failed, and what it left differs in nothing that counted.
 ghost use mathlib.Core.Path.{_≡_};
-ghost use mathlib.Core.Bool.{true};
-ghost use Prim.Native.Nat.{_+_, _≤_, _<_};
-ghost use Rattle.source.proofs.Formed.{CodeOk};
-ghost use Rattle.machine.specs.Rules.{address};
-ghost use Rattle.certify.specs.Tries.{Grain, Doubled, Vain};
-use live::idle;
+ghost use mathlib.Core.Bool.{true, cond};
+ghost use Prim.Native.Nat.{_≤_, _<_};
+ghost use lib.Dec.{eqb};
+ghost use Rattle.cares.specs.Cares.{Agrees};
+ghost use Rattle.certify.specs.Tries.{Doubled, Vain};
+use cares::agrees;
 use loads::read_value;
-use loads::read_view;
-use loads::readable;
+use machine::Forward;
 use machine::Memory;
 use machine::Thread;
 use rules::operands::address_of_sum;
 use rules::operands::value_of;
-use source::Code;
 use source::Instr;
 
-// How much of what a load's register holds matters after it: 0 nothing, 1 its value modulo 16, 2 its value. No answer is 3.
-pub fn grain(c: Code, s: Thread, x: Instr) -> u8
-    requires { ⌜ CodeOk c × (s .position + 1 ≤ 16) ⌝ }
-    ensures { λ r. ⌜ Grain c s x r ⌝ }
+// A try, if it was made (its care is not 3), left no larger view than another leaves, and the same value as far as that counted.
+fn no_better(care: u16, view: u8, value: u8, limit: u8, wanted: u8) -> bool
+    ensures { λ r. ⌜ (r ≡ true → (care ≡ 3 → ⊥) × ((view ≤ limit) × Agrees care value wanted)) ⌝ }
 {
-    match x {
-        Instr::Load(_, r, _, _) => {
-            let n = s.position + 1;
-            if !idle(1, c, r, n) {
-                return 2;
-            }
-            if !idle(2, c, r, n) {
-                return 1;
-            }
-            0
-        }
-        Instr::Store(_, _, _) => 3,
-        Instr::Compute(_, _, _, _) => 3,
-        Instr::Branch(_, _, _) => 3,
-        Instr::Fence(_) => 3,
-    }
-}
-
-// The two values are the same as far as it matters.
-fn same_value(grain: u8, v: u8, w: u8) -> bool
-    ensures { λ r. ⌜ (r ≡ true → ((2 ≤ grain → v ≡ w) × (1 ≤ grain → address v ≡ address w))) ⌝ }
-{
-    if v == w {
-        return true;
-    }
-    if 2 <= grain {
+    if care == 3 {
         return false;
     }
-    if grain == 0 {
-        return true;
+    if limit < view {
+        return false;
     }
-    v % 16 == w % 16
+    agrees(care, value, wanted)
 }
 
-// A time from `from` up to t can be read at l with a view no larger than t's and a value that matches.
-fn doubled(m: Memory, s: Thread, l: u8, grain: u8, from: u8, t: u8) -> bool
-    requires { ⌜ (m .count ≤ 16) × ((l < 16) × (t ≤ m .count)) ⌝ }
-    ensures { λ r. ⌜ (r ≡ true → Doubled m s l grain from t) ⌝ }
+// The read view at time t, by the forward pair of the location.
+fn view_by(pair: Forward, t: u8) -> u8
+    ensures { λ r. ⌜ r ≡ cond (eqb t (pair .time)) (pair .view) t ⌝ }
 {
+    if t == pair.time { pair.view } else { t }
+}
+
+// A time before t was tried with a view no larger than t's and a value that matches.
+fn doubled(m: Memory, s: Thread, l: u8, counted: [u16; 17], t: u8) -> bool
+    requires { ⌜ (l < 16) × (t ≤ 16) ⌝ }
+    ensures { λ r. ⌜ (r ≡ true → Doubled m s l counted t) ⌝ }
+{
+    let messages = m.messages;
+    let pair = s.forward_at(l);
     let value = read_value(m, t);
-    let view = read_view(s, l, t);
-    let mut u = from;
+    let view = view_by(pair, t);
+    if t == 0 {
+        return false;
+    }
+    if no_better(counted[0], view_by(pair, 0), 0, view, value) {
+        return true;
+    }
+    let mut u = 1u8;
     while u < t {
-        if readable(m, l, u) {
-            if read_view(s, l, u) <= view {
-                if same_value(grain, read_value(m, u), value) {
-                    return true;
-                }
-            }
+        if no_better(
+            counted[u as usize],
+            view_by(pair, u),
+            messages[(u - 1) as usize].value,
+            view,
+            value,
+        ) {
+            return true;
         }
         u += 1;
     }
     false
 }
 
-// Where the tries up to t have come to nothing, `from` the first that executed, the try at t comes to nothing too.
-pub fn in_vain(m: Memory, s: Thread, x: Instr, grain: u8, from: u8, t: u8) -> bool
-    requires { ⌜ (m .count ≤ 16) × (t ≤ m .count) ⌝ }
-    ensures { λ r. ⌜ (r ≡ true → Vain m s x grain from t) ⌝ }
+// Where the tries before t have come to nothing, the try at t comes to nothing too.
+pub fn in_vain(m: Memory, s: Thread, x: Instr, counted: [u16; 17], t: u8) -> bool
+    requires { ⌜ t ≤ 16 ⌝ }
+    ensures { λ r. ⌜ (r ≡ true → Vain m s x counted t) ⌝ }
 {
     match x {
         Instr::Load(_, _, a, b) => {
             let l = address_of_sum(value_of(s, a), value_of(s, b));
-            doubled(m, s, l, grain, from, t)
+            doubled(m, s, l, counted, t)
         }
         Instr::Store(_, _, _) => false,
         Instr::Compute(_, _, _, _) => false,

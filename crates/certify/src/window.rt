@@ -18,9 +18,10 @@ fn newest(m: Memory, l: u8, v: u8) -> u8
     requires { ⌜ m .count ≤ 16 ⌝ }
     ensures { λ r. ⌜ Stands m l v r ⌝ }
 {
+    let messages = m.messages;
     let mut t = smaller(v, m.count);
     while 0 < t {
-        if m.message_at(t).location == l {
+        if messages[(t - 1) as usize].location == l {
             return t;
         }
         t -= 1;
@@ -71,10 +72,12 @@ fn next_message(m: Memory, l: u8, t: u8) -> u8
     requires { ⌜ (m .count ≤ 16) × (t ≤ 16) ⌝ }
     ensures { λ r. ⌜ NextMessage m l t r ⌝ }
 {
-    let mut u = t + 1;
-    while u <= m.count {
-        if m.message_at(u).location == l {
-            return u;
+    let messages = m.messages;
+    let count = m.count;
+    let mut u = t;
+    while u < count {
+        if messages[u as usize].location == l {
+            return u + 1;
         }
         u += 1;
     }

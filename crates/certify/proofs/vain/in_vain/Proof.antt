@@ -36,7 +36,7 @@ enum-told-4 : tie.Need-enum-told-4
 enum-told-4 c = search needs
 
 returns : tie.Need-returns
-returns c = λ e. load-vain _ _ _ _ _ _ _ (c .before .before .before .before .before .x .given .1) _ (rw (c .before .before .before .value-of .ensures, c .before .before .value-of2 .ensures) at (c .before .address-of-sum .ensures .0)) _ _ _ (c .doubled .ensures e)
+returns c = λ e. load-vain _ _ _ _ _ _ _ (c .before .before .before .before .before .x .given .1) _ (rw (c .before .before .before .value-of .ensures, c .before .before .value-of2 .ensures) at (c .before .address-of-sum .ensures .0)) _ _ (c .doubled .ensures e)
 
 returns-2 : tie.Need-returns-2
 returns-2 c = λ e. absurd (let z : _≡_ {A = ℕ} 0 1 = cc in omega arith)

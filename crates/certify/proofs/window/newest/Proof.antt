@@ -1,39 +1,49 @@
 -- `certify::window::newest` meets its contract.
 -- Assumes nothing.
-use mathlib.Core.Path.{sym, ap, _∙_}
 use Prim.Native.Nat.{_≤_}
 use native.Mathlib.Omega.{arith}
 use borrow.Author.Needs.{needs}
-use Rattle.certify.specs.Below.{Message}
 use Rattle.certify.proofs.window.newest.Statement.{statement}
 use Rattle.certify.proofs.window.newest.Tie as tie
 
 abbrev Inv-loop : tie.InvT-loop
-Inv-loop m l v t₀ t = (t ≤ v) × (t ≤ m .count)
+Inv-loop l v messages t₀ t = t ≤ t₀
 
 abbrev μ-loop : tie.MeasureT-loop
-μ-loop m l v t₀ t = t
+μ-loop l v messages t₀ t = t
 
 smaller-requires : tie.Need-smaller-requires Inv-loop μ-loop
 smaller-requires c κs = search needs
 
 loop-holds : tie.Need-loop-holds Inv-loop μ-loop
-loop-holds c = let e = c .smaller .ensures in (omega arith, omega arith)
+loop-holds c = omega arith
 
-message-at-requires : tie.Need-message-at-requires Inv-loop μ-loop
-message-at-requires c κs = let h = c .before .loop .inv .1 in let p = c .before .before .before .pre in (c .loop-test .taken, omega arith)
+sub-if1 : tie.Need-sub-if1 Inv-loop μ-loop
+sub-if1 c = omega arith
+
+cast-if1 : tie.Need-cast-if1 Inv-loop μ-loop
+cast-if1 c = omega arith
+
+mul-if1 : tie.Need-mul-if1 Inv-loop μ-loop
+mul-if1 c = omega arith
+
+element-copy-out-if1 : tie.Need-element-copy-out-if1 Inv-loop μ-loop
+element-copy-out-if1 c = omega arith
 
 returns : tie.Need-returns Inv-loop μ-loop
-returns c = record { known = c .before .before .before .before .loop .inv .1; there = λ z. (ap (λ (w : Message). w .location) (sym (c .before .before .message-at .ensures)) ∙ c .if1 .taken, c .before .before .before .before .loop .inv .0) }
+returns c =
+    let e = c .before .before .before .smaller .ensures in
+    let h = c .before .before .loop .inv in
+    record { known = omega arith; there = λ z. (c .if1 .taken, omega arith) }
 
 sub-t : tie.Need-sub-t Inv-loop μ-loop
-sub-t c = let h = c .before .before .before .loop-test .taken in omega arith
+sub-t c = omega arith
 
 loop-less : tie.Need-loop-less Inv-loop μ-loop
-loop-less c = let h = c .before .before .before .loop-test .taken in omega arith
+loop-less c = omega arith
 
 loop-again : tie.Need-loop-again Inv-loop μ-loop
-loop-again c = let h = c .before .before .before .before .loop .inv .0 in let k = c .before .before .before .before .loop .inv .1 in (omega arith, omega arith)
+loop-again c = omega arith
 
 returns-2 : tie.Need-returns-2 Inv-loop μ-loop
 returns-2 c = record { known = omega arith; there = λ z. absurd (omega arith) }
@@ -46,7 +56,10 @@ newest-spec =
     μ-loop
     smaller-requires
     loop-holds
-    message-at-requires
+    sub-if1
+    cast-if1
+    mul-if1
+    element-copy-out-if1
     returns
     sub-t
     loop-less

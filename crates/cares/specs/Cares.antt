@@ -1,0 +1,38 @@
+-- Cares: how much of what each register holds a failure rests on.
+-- Assumes nothing.
+use mathlib.Core.Path.{_≡_}
+use mathlib.Core.List.{List}
+use Prim.Native.Nat.{ℕ, _+_, _%_, _≤_, _<_}
+use lib.ListN.{getD}
+use Rattle.machine.specs.State.{freshRegister}
+use Rattle.machine.specs.Rules.{address}
+use Rattle.machine.specs.declared.Thread.{Thread}
+
+-- two values, of a thread that failed and of another, are the same as far as the care k asks: 0 for nothing, 1 for the value modulo 16, 256 + e for no more than that it is not e, 512 + e that it is e or more, 768 + e that it is less than e, any other for the value
+pub data Agrees (k x y : ℕ) : Type 0 where
+  same : x ≡ y → Agrees k x y
+  free : k ≡ 0 → Agrees k x y
+  near : k ≡ 1 → address x ≡ address y → Agrees k x y
+  other : 256 ≤ k → k < 512 → (k ≡ 256 + y % 256 → ⊥) → Agrees k x y
+  above : 512 ≤ k → k < 768 → k ≤ 512 + y → Agrees k x y
+  below : 768 + y < k → Agrees k x y
+
+-- the care for register j; one past the eight counts with its value
+abbrev pub careOf : List ℕ → ℕ → ℕ
+careOf cares j = getD cares j 2
+
+-- what register j holds
+abbrev pub held : Thread → ℕ → ℕ
+held s j = (getD (s .registers) j freshRegister) .value
+
+-- the registers of two threads agree
+abbrev pub Agreeing : List ℕ → Thread → Thread → Type 0
+Agreeing cares s s' = (j : ℕ) → Agrees (careOf cares j) (held s j) (held s' j)
+
+-- all but register r
+abbrev pub AgreeingBut : List ℕ → ℕ → Thread → Thread → Type 0
+AgreeingBut cares r s s' = (j : ℕ) → (j ≡ r → ⊥) → Agrees (careOf cares j) (held s j) (held s' j)
+
+-- COVERS: threads that agree by the first cares agree by the second
+pub record Covers (cares cares' : List ℕ) : Type 0 where
+  pub agreeing : (s s' : Thread) → Agreeing cares s s' → Agreeing cares' s s'

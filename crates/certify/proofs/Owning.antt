@@ -1,0 +1,125 @@
+-- A store that appends its own message: what the thread comes to from there, and what a failure rests on.
+-- Assumes nothing.
+use mathlib.Core.Path.{_≡_, refl, sym, ap, ap₂, subst, _∙_}
+use mathlib.Core.Bool.{Bool, true}
+use mathlib.Core.Option.{none, Option·some-injective}
+use Prim.Native.Nat.{ℕ, _+_, _≤_, _<_}
+use native.Mathlib.Omega.{arith}
+use lib.Count.{ones}
+use lib.Dec.{ltb}
+use Rattle.source.specs.Counts.{storesFrom}
+use Rattle.source.proofs.Counts.{stores-fall}
+use Rattle.machine.specs.State.{append}
+use Rattle.machine.specs.Rules.{next, valueOf, address, execute, addPromise}
+use Rattle.machine.specs.Answers.{ruled, storeMessage, ownStore}
+use Rattle.machine.specs.declared.RuleAnswer.the-variants.{Done, Refused}
+use Rattle.machine.specs.declared.Ruled.{Ruled}
+use Rattle.machine.proofs.Cases.{ruled-done, ruled-refused}
+use Rattle.machine.proofs.Effects.{effect, moves}
+use Rattle.cares.specs.Cares.{Agrees, Agreeing, Covers}
+use Rattle.cares.specs.declared.Cares.{Cares}
+use Rattle.cares.proofs.Agreeing.{same-value}
+use Rattle.certify.specs.Below.{Code, Operand, Constant, OfRegister, StoreMode, Instr, Store, Message, Memory, Thread}
+use Rattle.certify.specs.Certify.{messageOf}
+use Rattle.certify.specs.Asks.{Asks}
+use Rattle.certify.specs.Sought.{Sought, Reached, Meets, Owns, Found}
+use Rattle.certify.specs.Under.{Rests}
+use Rattle.certify.proofs.Fit.{no-message, own-effect, own-leaves, comes-fit}
+use Rattle.certify.proofs.Resting.{promise-rests, store-too, store-rests}
+use Rattle.certify.proofs.Finding.{rests-less, found-none, other}
+use Rattle.certify.proofs.Stores.{crowds, aim-fits}
+
+-- a promise changes no register
+value-promised : (m : Memory) (s : Thread) (a : Operand) → valueOf (addPromise m s) a ≡ valueOf s a
+value-promised m s (Constant n) = refl
+value-promised m s (OfRegister r) = refl
+
+module _ (c : Code) (i : ℕ) (m : Memory) (s : Thread) (x : Instr) (q : Sought) (k : Cares) where
+  pub owns-none : ((y : Thread) → messageOf i y x ≡ none) → Found (q .from) (q .best) (λ y j. Owns c i m y x (q .hole) j) s (record { best = q .best; cares = k })
+  owns-none e = found-none (q .from) (q .best) (λ y j. Owns c i m y x (q .hole) j) s k (λ s' rests j a b w. no-message (sym (e s') ∙ w .is-own))
+
+  pub owns-full : 16 ≤ m .count → Found (q .from) (q .best) (λ y j. Owns c i m y x (q .hole) j) s (record { best = q .best; cares = k })
+  owns-full h = found-none (q .from) (q .best) (λ y j. Owns c i m y x (q .hole) j) s k (λ s' rests j a b w. let l = w .fewer in omega arith)
+
+  -- too few stores are left after it
+  pub owns-crowded : (n : ℕ) → n ≡ s .position + 1 → (b : Bool) → b ≡ ltb (storesFrom c n) (ones (s .promises)) → b ≡ true
+      → Found (q .from) (q .best) (λ y j. Owns c i m y x (q .hole) j) s (record { best = q .best; cares = k })
+  owns-crowded n ne b be bt =
+      found-none (q .from) (q .best) (λ y j. Owns c i m y x (q .hole) j) s k (λ s' rests j l h w.
+      let f = comes-fit (aim-fits c i (q .hole) j) (w .goes-on) in
+      let does = effect x (append m (w .message)) ((append m (w .message)) .count) (addPromise (append m (w .message)) s') (w .after) (w .does) in
+      let p = ap ones (own-leaves (own-effect i m (w .message) s' (w .is-own) does)) in
+      let out = ap ones (rests .under .same-promises) in
+      let at = rests .under .same-position in
+      let z = moves does in
+      let u = stores-fall c n ((w .after) .position) (omega arith) in
+      let v = crowds (storesFrom c n) (ones (s .promises)) b be bt in
+      omega arith)
+
+  -- the store is noted to rest on its data
+  module _ (how : StoreMode) (a d : Operand) (is : x ≡ Store how a d) (few : m .count < 16) (u : Ruled) (e : u ≡ ruled s (ownStore how a d m i s)) (asked : Asks x m s (k .of))
+      (settled : Cares) (noted : (v v' : Thread) → Agreeing (settled .of) v v' → Agreeing (k .of) v v' × Agrees 2 (valueOf v d) (valueOf v' d)) where
+    w : Message
+    w = storeMessage i a d s
+
+    m' : Memory
+    m' = append m w
+
+    same-place : (s' : Thread) → Rests (settled .of) s s' → address (valueOf s a) ≡ address (valueOf s' a)
+    same-place s' rests = asked .store how a d is s' (noted s s' (rests .agreeing) .0) .place
+
+    same-data : (s' : Thread) → Rests (settled .of) s s' → valueOf s d ≡ valueOf s' d
+    same-data s' rests = same-value (noted s s' (rests .agreeing) .1)
+
+    promised-place : (s' : Thread) → Rests (settled .of) s s' → address (valueOf (addPromise m' s) a) ≡ address (valueOf (addPromise m' s') a)
+    promised-place s' rests = ap address (value-promised m' s a) ∙ same-place s' rests ∙ sym (ap address (value-promised m' s' a))
+
+    promised-data : (s' : Thread) → Rests (settled .of) s s' → valueOf (addPromise m' s) d ≡ valueOf (addPromise m' s') d
+    promised-data s' rests = value-promised m' s d ∙ same-data s' rests ∙ sym (value-promised m' s' d)
+
+    -- a thread in which is so what it rests on has the same message, and executes the store on the same memory
+    own-same : (s' : Thread) → Rests (settled .of) s s' → (j : ℕ) (o : Owns c i m s' x (q .hole) j)
+        → (o .message ≡ w) × (execute (Store how a d) m' (m' .count) (addPromise m' s') ≡ next (o .after))
+    unfolding w m'
+    own-same s' rests j o =
+        let mine : storeMessage i a d s' ≡ o .message = Option·some-injective _ _ (sym (ap (messageOf i s') is) ∙ o .is-own) in
+        let y : w ≡ o .message = ap₂ (λ (l v : ℕ). record { location = l; value = v; thread = i }) (same-place s' rests) (same-data s' rests) ∙ mine in (
+          sym y,
+          subst (λ (z : Message). execute (Store how a d) (append m z) ((append m z) .count) (addPromise (append m z) s') ≡ next (o .after)) (sym y)
+              (subst (λ (z : Instr). execute z (append m (o .message)) ((append m (o .message)) .count) (addPromise (append m (o .message)) s') ≡ next (o .after)) is (o .does)),
+        )
+
+    pub owns-stuck : (n : ℕ) → u .answer ≡ Refused n → Found (q .from) (q .best) (λ y j. Owns c i m y x (q .hole) j) s (record { best = q .best; cares = settled })
+    unfolding ownStore w m'
+    owns-stuck n z =
+        found-none (q .from) (q .best) (λ y j. Owns c i m y x (q .hole) j) s settled (λ s' rests j l h o.
+        let mine = store-too m' how a d (addPromise m' s) (addPromise m' s') (promise-rests m' rests .under) (promised-place s' rests) (m' .count) (o .after) (promised-data s' rests) (own-same s' rests j o .1) in
+        other (sym (ruled-refused s (ownStore how a d m i s) u n e z) ∙ mine .1))
+
+    pub owns-goes : (m₁ : Memory) → m₁ ≡ append m (storeMessage i a d s) → u .answer ≡ Done → (then : Reached) → Found (q .from) (q .best) (λ y j. Meets c i m₁ y (q .hole) j) (u .thread) then
+        → (k' : Cares) → Covers (k' .of) (then .cares .of) → Covers (k' .of) (settled .of)
+        → Found (q .from) (q .best) (λ y j. Owns c i m y x (q .hole) j) s (record { best = then .best; cares = k' })
+    unfolding ownStore w m'
+    owns-goes m₁ me z then found k' more more' =
+        let does = ruled-done s (ownStore how a d m i s) u e z in
+        record {
+          better = record {
+            low = found .better .low;
+            hit = λ l. let p = found .better .hit l in (
+              p .0,
+              record {
+                message = w;
+                after = u .thread;
+                is-own = ap (messageOf i s) is;
+                fewer = few;
+                does = ap (λ (v : Instr). execute v m' (m' .count) (addPromise m' s)) is ∙ does;
+                goes-on = subst (λ (y : Memory). Meets c i y (u .thread) (q .hole) (then .best)) me (p .1);
+              },
+            );
+          };
+          barren = λ s' rests j l h o.
+              let settles = rests-less more' rests in
+              let its = own-same s' settles j o in
+              let after = store-rests m' how a d (addPromise m' s) (addPromise m' s') (promise-rests m' settles .under) (promised-place s' settles) (then .cares .of) (rests-less more rests .agreeing) (m' .count) (u .thread) (o .after) does (its .1) in
+              found .barren (o .after) after j l h (subst (λ (y : Memory). Meets c i y (o .after) (q .hole) j) (ap (append m) (its .0) ∙ sym me) (o .goes-on));
+        }

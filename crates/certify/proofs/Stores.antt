@@ -1,0 +1,34 @@
+-- Stores enough: where what is sought is met, no more promises are outstanding than stores are left.
+-- Assumes nothing.
+use mathlib.Core.Path.{_≡_, sym, ap, _∙_, subst}
+use mathlib.Core.Logic.{inl, inr}
+use mathlib.Core.Bool.{Bool, true}
+use Prim.Native.Nat.{ℕ, suc, _≤_, _<_}
+use native.Mathlib.Omega.{arith}
+use lib.Count.{ones}
+use lib.Dec.{T, ltb, ltb→lt}
+use Rattle.source.specs.Counts.{storesFrom}
+use Rattle.source.proofs.Counts.{stores-past, stores-fall}
+use Rattle.machine.specs.Rules.{execute}
+use Rattle.machine.proofs.Sets.{ones-none}
+use Rattle.machine.proofs.Effects.{effect, moves}
+use Rattle.certify.specs.Below.{Code, Memory, Thread}
+use Rattle.certify.specs.Certify.{certified}
+use Rattle.certify.specs.Sought.{fill, Aim}
+use Rattle.certify.proofs.Iff.{onward-inv}
+use Rattle.certify.proofs.Fit.{takes, promises-fit}
+
+pub crowds : (n p : ℕ) (b : Bool) → b ≡ ltb n p → b ≡ true → n < p
+crowds n p b e z = ltb→lt n p (subst T (sym (sym e ∙ z)) tt)
+
+pub aim-fits : (c : Code) (i h k : ℕ) (m : Memory) (s : Thread) → Aim c i h k m s → ones (s .promises) ≤ storesFrom c (s .position)
+aim-fits c i h k m s (inl p) = let z = ones-none in let f = ap ones (p .1) in omega arith
+aim-fits c i h k m s (inr (x, g, f)) =
+    let m' = fill m h (f .message) in
+    let q = onward-inv (certified c i m') (execute x m' h s) (f .keeps) in
+    let does = effect x m' h s (q .0) (q .1) in
+    let a = promises-fit c i m' (q .0) (q .2) in
+    let b = takes does in
+    let d = stores-past c (s .position) x g in
+    let l = stores-fall c (suc (s .position)) (q .0 .position) (moves does) in
+    omega arith
