@@ -11,7 +11,7 @@ use lib.Seq.{getD-set-same, getD-set-other}
 use Rattle.machine.specs.Rules.{address}
 use Rattle.machine.specs.declared.Thread.{Thread}
 use Rattle.source.proofs.Arrays.{getD-any}
-use Rattle.cares.specs.Cares.{Agrees, same, free, near, other, above, below, careOf, held, Agreeing, AgreeingBut, Covers}
+use Rattle.cares.specs.Cares.{Agrees, same, free, near, other, above, below, away, careOf, held, Agreeing, AgreeingBut, Covers}
 
 -- ---- one care
 module _ {x y : ℕ} where
@@ -22,7 +22,8 @@ module _ {x y : ℕ} where
   same-value (near e a) = absurd (omega arith)
   same-value (other l h n) = absurd (omega arith)
   same-value (above l h n) = absurd (omega arith)
-  same-value (below l) = absurd (omega arith)
+  same-value (below h l) = absurd (omega arith)
+  same-value (away l n) = absurd (omega arith)
 
   -- care 1 asks for the address
   pub same-address : Agrees 1 x y → address x ≡ address y
@@ -31,7 +32,8 @@ module _ {x y : ℕ} where
   same-address (near e a) = a
   same-address (other l h n) = absurd (omega arith)
   same-address (above l h n) = absurd (omega arith)
-  same-address (below l) = absurd (omega arith)
+  same-address (below h l) = absurd (omega arith)
+  same-address (away l n) = absurd (omega arith)
 
   -- a care from 256 on and below 512 asks that the other value is the same or not the one it names
   pub not-that : {k : ℕ} → 256 ≤ k → k < 512 → Agrees k x y → (x ≡ y) ⊎ (k ≡ 256 + y % 256 → ⊥)
@@ -40,7 +42,8 @@ module _ {x y : ℕ} where
   not-that l g (near e a) = absurd (omega arith)
   not-that l g (other l' h n) = inr n
   not-that l g (above l' h n) = absurd (omega arith)
-  not-that l g (below h) = absurd (omega arith)
+  not-that l g (below h n) = absurd (omega arith)
+  not-that l g (away h n) = absurd (omega arith)
 
   -- from 512 on and below 768, that it is the same or not less
   pub not-less : {k : ℕ} → 512 ≤ k → k < 768 → Agrees k x y → (x ≡ y) ⊎ (k ≤ 512 + y)
@@ -49,16 +52,28 @@ module _ {x y : ℕ} where
   not-less l g (near e a) = absurd (omega arith)
   not-less l g (other l' h n) = absurd (omega arith)
   not-less l g (above l' h n) = inr n
-  not-less l g (below h) = absurd (omega arith)
+  not-less l g (below h n) = absurd (omega arith)
+  not-less l g (away h n) = absurd (omega arith)
 
-  -- from 768 on, that it is the same or less
-  pub less : {k : ℕ} → 768 ≤ k → Agrees k x y → (x ≡ y) ⊎ (768 + y < k)
-  less l (same e) = inl e
-  less l (free e) = absurd (omega arith)
-  less l (near e a) = absurd (omega arith)
-  less l (other l' h n) = absurd (omega arith)
-  less l (above l' h n) = absurd (omega arith)
-  less l (below h) = inr h
+  -- from 768 on and below 2048, that it is the same or less
+  pub less : {k : ℕ} → 768 ≤ k → k < 2048 → Agrees k x y → (x ≡ y) ⊎ (768 + y < k)
+  less l g (same e) = inl e
+  less l g (free e) = absurd (omega arith)
+  less l g (near e a) = absurd (omega arith)
+  less l g (other l' h n) = absurd (omega arith)
+  less l g (above l' h n) = absurd (omega arith)
+  less l g (below h n) = inr n
+  less l g (away h n) = absurd (omega arith)
+
+  -- from 2048 on, that it is the same or modulo 16 not the one it names
+  pub not-there : {k : ℕ} → 2048 ≤ k → Agrees k x y → (x ≡ y) ⊎ (k ≡ 2048 + address y → ⊥)
+  not-there l (same e) = inl e
+  not-there l (free e) = absurd (omega arith)
+  not-there l (near e a) = absurd (omega arith)
+  not-there l (other l' h n) = absurd (omega arith)
+  not-there l (above l' h n) = absurd (omega arith)
+  not-there l (below h n) = absurd (omega arith)
+  not-there l (away h n) = inr n
 
 -- ---- the cares of all registers
 -- a care that asks more is put in: no register's care asks less than before

@@ -8,14 +8,15 @@ use Rattle.machine.specs.State.{freshRegister}
 use Rattle.machine.specs.Rules.{address}
 use Rattle.machine.specs.declared.Thread.{Thread}
 
--- two values, of a thread that failed and of another, are the same as far as the care k asks: 0 for nothing, 1 for the value modulo 16, 256 + e for no more than that it is not e, 512 + e that it is e or more, 768 + e that it is less than e, any other for the value
+-- two values, of a thread that failed and of another, are the same as far as the care k asks: 0 for nothing, 1 for the value modulo 16, 256 + e for no more than that it is not e, 512 + e that it is e or more, 768 + e that it is less than e, 2048 + e that modulo 16 it is not e, any other for the value
 pub data Agrees (k x y : ℕ) : Type 0 where
   same : x ≡ y → Agrees k x y
   free : k ≡ 0 → Agrees k x y
   near : k ≡ 1 → address x ≡ address y → Agrees k x y
   other : 256 ≤ k → k < 512 → (k ≡ 256 + y % 256 → ⊥) → Agrees k x y
   above : 512 ≤ k → k < 768 → k ≤ 512 + y → Agrees k x y
-  below : 768 + y < k → Agrees k x y
+  below : k < 2048 → 768 + y < k → Agrees k x y
+  away : 2048 ≤ k → (k ≡ 2048 + address y → ⊥) → Agrees k x y
 
 -- the care for register j; one past the eight counts with its value
 abbrev pub careOf : List ℕ → ℕ → ℕ

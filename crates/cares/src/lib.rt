@@ -1,5 +1,5 @@
 // What a failure rests on: for each register, how much of what it holds had to be so. 0: nothing; 1: the value modulo 16; 2: the value;
-// 256 + e: no more than that it is not e; 512 + e: that it is e or more; 768 + e: that it is less than e.
+// 256 + e: no more than that it is not e; 512 + e: that it is e or more; 768 + e: that it is less than e; 2048 + e: that modulo 16 it is not e.
 pub mod before;
 
 ghost use mathlib.Core.Path.{_≡_};
@@ -36,7 +36,10 @@ pub fn agrees(care: u16, x: u8, y: u8) -> bool
     if care < 768 {
         return care <= 512 + y as u16;
     }
-    768 + (y as u16) < care
+    if care < 2048 {
+        return 768 + (y as u16) < care;
+    }
+    care != 2048 + (y % 16) as u16
 }
 
 // A care that asks what both ask.

@@ -1,7 +1,7 @@
 -- What the code relies on that tells what the tries of a load or store rest on, on plain values.
 -- Assumes nothing.
 use mathlib.Core.Path.{_≡_, sym, ap, subst, subst₂, _∙_}
-use mathlib.Core.Logic.{⊎-elim}
+use mathlib.Core.Logic.{_⊎_, inl, inr, ⊎-elim}
 use mathlib.Core.Bool.{Bool, true, false, not, _&&_}
 use mathlib.Core.List.{List}
 use Prim.Native.Nat.{ℕ, _+_, _-_, _*_, _≤_, _<_}
@@ -15,9 +15,9 @@ use Rattle.machine.specs.Rules.{valueOf, address}
 use Rattle.machine.proofs.Sets.{has-positive}
 use Rattle.times.specs.Times.{After}
 use Rattle.cares.specs.Cares.{Agrees, Agreeing}
-use Rattle.cares.proofs.Agreeing.{same-value, same-address, not-that, not-less, less}
+use Rattle.cares.proofs.Agreeing.{same-address, not-that}
 use Rattle.certify.specs.Below.{Operand, LoadMode, StoreMode, Instr, Compute, Load, Store, Branch, Fence, Message, Memory, Thread}
-use Rattle.certify.specs.Asks.{Sought, OtherValues, Unsought, StoresSame, Asks, FillsSame}
+use Rattle.certify.specs.Asks.{Sought, OtherValues, Seeks, Unsought, Elsewhere, PlaceCare, StoresSame, Asks, FillsSame}
 
 -- ---- the other values of the promises to a location, one by one
 module _ (m : Memory) (p l v : ℕ) where
@@ -54,49 +54,16 @@ module _ (m : Memory) (p l v : ℕ) where
   pub values-all : (u r : ℕ) → OtherValues m p l v u r → m .count < u → OtherValues m p l v 17 r
   values-all u r h over y j a out lo jm = h y j a out (omega arith) jm
 
--- ---- whether the number of a store is sought
-module _ (q : Sought) (l v b n : ℕ) (be : b ≡ 256 * l) (ne : n ≡ b + v) where
-  -- it is not below best, nor is that of any other value
-  pub unsought-all : q .best ≤ n → q .best ≤ b → Unsought q l v 0
-  unsought-all high all = record { found = λ t. let h = t .1 in absurd (omega arith); missed = λ none y a t. let h = t .1 in omega arith }
-
-  -- it is not below best, nor is that of a value as large as the care says
-  pub unsought-above : q .best ≤ n → b < q .best → (k : ℕ) → k ≡ 512 + (q .best - b) → k < 768 → Unsought q l v k
-  unsought-above high low k ke top =
-      record {
-        found = λ t. let h = t .1 in absurd (omega arith);
-        missed = λ none y a t. let h = t .1 in ⊎-elim (λ e. none (let f = t .0 in (omega arith, omega arith))) (λ large. omega arith) (not-less (omega arith) top a);
-      }
-
-  -- it is below `from`, as is that of a value below what the care says
-  pub unsought-below : n < q .from → (k : ℕ) → 768 ≤ k → k ≤ 768 + (q .from - b) → Unsought q l v k
-  unsought-below low k top ke =
-      record {
-        found = λ t. let h = t .0 in absurd (omega arith);
-        missed = λ none y a t. let h = t .0 in ⊎-elim (λ e. let f = t .1 in none (omega arith, omega arith)) (λ small. omega arith) (less top a);
-      }
-
-  -- it is sought
-  pub unsought-not : (q .best ≤ n → ⊥) → (n < q .from → ⊥) → Unsought q l v 2
-  unsought-not low high =
-      record {
-        found = λ t y a. same-value a;
-        missed = λ none y a t. none (elim (decLt n (q .best)) [
-          | yes h ↦ elim (decLt n (q .from)) [ yes f ↦ absurd (high f) | no f ↦ (omega arith, omega arith) ]
-          | no h ↦ absurd (low (omega arith))
-        ]);
-      }
-
 -- ---- what a store rests on
-module _ (m : Memory) (s : Thread) (a d : Operand) (s' : Thread) where
-  -- on its location, and on that its data is not the value of another promise to it
-  pub stores-kept : m .count ≤ 16 → (l v k : ℕ) → l ≡ address (valueOf s a) → v ≡ valueOf s d → OtherValues m (s .promises) l v 17 k
-      → Agrees 1 (valueOf s a) (valueOf s' a) → Agrees k (valueOf s d) (valueOf s' d) → StoresSame m s a d s'
-  stores-kept room l v k le ve others at q =
-      record {
-        place = same-address at;
-        data-kept = λ u out um lu vu. sym ve ∙ others (valueOf s' d) u (subst (λ (x : ℕ). Agrees k x (valueOf s' d)) (sym ve) q) out (omega arith) um (lu ∙ sym le) vu;
-      }
+module _ (m : Memory) (s : Thread) (q : Sought) (a d : Operand) (s' : Thread) where
+  -- on its location, or that it is not one with a promise or a number that is sought; and on that its data is not the value of another promise to it
+  pub stores-kept : m .count ≤ 16 → (l v e k : ℕ) → l ≡ address (valueOf s a) → v ≡ valueOf s d → PlaceCare m (s .promises) q l e → OtherValues m (s .promises) l v 17 k
+      → Agrees e (valueOf s a) (valueOf s' a) → Agrees k (valueOf s d) (valueOf s' d) → StoresSame m s a d s' ⊎ Elsewhere m (s .promises) q (address (valueOf s' a))
+  stores-kept room l v e k le ve places others at o =
+      ⊎-elim (λ same. inl (record {
+        place = same;
+        data-kept = λ u out um lu vu. sym ve ∙ others (valueOf s' d) u (subst (λ (x : ℕ). Agrees k x (valueOf s' d)) (sym ve) o) out (omega arith) um (lu ∙ sym le) vu;
+      })) (λ there. inr there) (places .apart (valueOf s a) (valueOf s' a) (sym le) at)
 
 -- ---- the instructions
 -- the instruction is a load or store
@@ -122,36 +89,46 @@ load-not-store k k' r a a' b d' e = let z : _≡_ {A = ℕ} 0 1 = cc in omega ar
 module _ (x : Instr) (m : Memory) (s : Thread) (q : Sought) (cares : List ℕ) where
   -- a load rests on its location
   pub load-asks : (k : LoadMode) (r : ℕ) (a b : Operand) → x ≡ Load k r a b
-      → ((s' : Thread) → Agreeing cares s s' → Agrees 1 (valueOf s a) (valueOf s' a) × Agrees 1 (valueOf s b) (valueOf s' b)) → Asks x m s cares × FillsSame x s q cares
+      → ((s' : Thread) → Agreeing cares s s' → Agrees 1 (valueOf s a) (valueOf s' a) × Agrees 1 (valueOf s b) (valueOf s' b)) → Asks x m s q cares × FillsSame x s q cares
   load-asks k r a b is f = (
     record {
       load = λ k' r' a' b' is' s' g. let e = load-same k k' r r' a a' b b' (sym is ∙ is') in (rw (sym (e .1)) (same-address (f s' g .0)), rw (sym (e .2)) (same-address (f s' g .1)));
       store = λ k' a' d' is' s' g. absurd (load-not-store k k' r a a' b d' (sym is ∙ is'));
     },
-    record { number = λ k' a' d' is' out. absurd (load-not-store k k' r a a' b d' (sym is ∙ is')) },
+    record {
+      number = λ k' a' d' is' out. absurd (load-not-store k k' r a a' b d' (sym is ∙ is'));
+      place = λ k' a' d' is' out byte seeks s' g. absurd (load-not-store k k' r a a' b d' (sym is ∙ is'));
+    },
   )
 
-  -- a store rests on what makes it the same, and its number, where the hole is outstanding, what it is
-  pub store-asks : (k : StoreMode) (a d : Operand) → x ≡ Store k a d → ((s' : Thread) → Agreeing cares s s' → StoresSame m s a d s')
-      → (T (has (s .promises) (q .hole)) → (e : ℕ) × (Unsought q (address (valueOf s a)) (valueOf s d) e × ((s' : Thread) → Agreeing cares s s' → Agrees e (valueOf s d) (valueOf s' d))))
-      → Asks x m s cares × FillsSame x s q cares
-  store-asks k a d is f fills = (
+  -- a store rests on what makes it the same or one elsewhere, and its number, where the hole is outstanding, what it is
+  pub store-asks : (k : StoreMode) (a d : Operand) → x ≡ Store k a d → (l e : ℕ) → l ≡ address (valueOf s a) → PlaceCare m (s .promises) q l e → ((s' : Thread) → Agreeing cares s s' → Agrees e (valueOf s a) (valueOf s' a))
+      → ((s' : Thread) → Agreeing cares s s' → StoresSame m s a d s' ⊎ Elsewhere m (s .promises) q (address (valueOf s' a)))
+      → (T (has (s .promises) (q .hole)) → (n : ℕ) × (Unsought q (address (valueOf s a)) (valueOf s d) n × ((s' : Thread) → Agreeing cares s s' → Agrees n (valueOf s d) (valueOf s' d))))
+      → Asks x m s q cares × FillsSame x s q cares
+  store-asks k a d is l e le places at f fills = (
     record {
       load = λ k' r' a' b' is' s' g. absurd (load-not-store k' k r' a' a b' d (sym is' ∙ is));
-      store = λ k' a' d' is' s' g. let e = store-same k k' a a' d d' (sym is ∙ is') in subst₂ (λ (o o' : Operand). StoresSame m s o o' s') (e .0) (e .1) (f s' g);
+      store = λ k' a' d' is' s' g. let z = store-same k k' a a' d d' (sym is ∙ is') in subst₂ (λ (o o' : Operand). StoresSame m s o o' s' ⊎ Elsewhere m (s .promises) q (address (valueOf s' o))) (z .0) (z .1) (f s' g);
     },
     record {
-      number = λ k' a' d' is' out. let e = store-same k k' a a' d d' (sym is ∙ is') in
-          subst₂ (λ (o o' : Operand). (n : ℕ) × (Unsought q (address (valueOf s o)) (valueOf s o') n × ((s' : Thread) → Agreeing cares s s' → Agrees n (valueOf s o') (valueOf s' o')))) (e .0) (e .1) (fills out);
+      number = λ k' a' d' is' out. let z = store-same k k' a a' d d' (sym is ∙ is') in
+          subst₂ (λ (o o' : Operand). (n : ℕ) × (Unsought q (address (valueOf s o)) (valueOf s o') n × ((s' : Thread) → Agreeing cares s s' → Agrees n (valueOf s o') (valueOf s' o')))) (z .0) (z .1) (fills out);
+      place = λ k' a' d' is' out byte seeks s' g. let z = store-same k k' a a' d d' (sym is ∙ is') in
+          subst (λ (o : Operand). address (valueOf s o) ≡ address (valueOf s' o)) (z .0)
+          (places .here out (valueOf s d') byte (subst (λ (n : ℕ). Seeks q (256 * n + valueOf s d')) (sym (le ∙ ap (λ (o : Operand). address (valueOf s o)) (z .0))) seeks) (valueOf s a) (valueOf s' a) (sym le) (at s' g));
     },
   )
 
   -- what is neither rests on nothing
-  pub other-asks : is-tried x ≡ false → Asks x m s cares × FillsSame x s q cares
+  pub other-asks : is-tried x ≡ false → Asks x m s q cares × FillsSame x s q cares
   other-asks n = (
     record {
       load = λ k r a b is s' g. absurd (subst T (sym (ap is-tried is) ∙ n) tt);
       store = λ k a d is s' g. absurd (subst T (sym (ap is-tried is) ∙ n) tt);
     },
-    record { number = λ k a d is out. absurd (subst T (sym (ap is-tried is) ∙ n) tt) },
+    record {
+      number = λ k a d is out. absurd (subst T (sym (ap is-tried is) ∙ n) tt);
+      place = λ k a d is out byte seeks s' g. absurd (subst T (sym (ap is-tried is) ∙ n) tt);
+    },
   )

@@ -1,7 +1,7 @@
 -- A store that fills the hole: what it fulfils, by which number, and whether the thread is then certified.
 -- Assumes nothing.
 use mathlib.Core.Path.{_≡_, refl, sym, ap, ap₂, _∙_, subst}
-use mathlib.Core.Logic.{inl, inr}
+use mathlib.Core.Logic.{inl, inr, ⊎-elim}
 use mathlib.Core.Bool.{Bool, true, false, not, _&&_}
 use mathlib.Core.List.{List}
 use mathlib.Core.Option.{none, some, Option·some-injective}
@@ -76,7 +76,7 @@ module _ (c : Code) (i : ℕ) (x : Instr) (m : Memory) (s : Thread) (q : Sought)
   fill-none e = found-none (q .from) (q .best) (λ y j. Fills c i x (q .hole) j m y) s k (λ s' rests j u v f. no-message (sym (e s') ∙ f .is-own))
 
   -- the one store, by the number that is sought
-  module _ (how : StoreMode) (a d : Operand) (is : x ≡ Store how a d) (w : Message) (we : w ≡ storeMessage i a d s) (asked : Asks x m s (k .of)) (fills : FillsSame x s q (k .of))
+  module _ (how : StoreMode) (a d : Operand) (is : x ≡ Store how a d) (w : Message) (we : w ≡ storeMessage i a d s) (byte : w .value < 256) (asked : Asks x m s q (k .of)) (fills : FillsSame x s q (k .of))
       (o : Bool) (oe : o ≡ has (s .promises) (q .hole)) (on : not o ≡ false) (r : ℕ) (l : Least (q .from) (q .best) (λ j. 256 * w .location + w .value ≡ j) r) where
     out : T (has (s .promises) (q .hole))
     out = subst T (sym (was-true oe on)) tt
@@ -87,39 +87,45 @@ module _ (c : Code) (i : ℕ) (x : Instr) (m : Memory) (s : Thread) (q : Sought)
     own-number : 256 * address (valueOf s a) + valueOf s d ≡ 256 * w .location + w .value
     own-number = ap (λ (y : Message). 256 * y .location + y .value) (sym we)
 
-    -- a thread in which is so what the tries rest on has a message to the same location
-    fill-message : (s' : Thread) → Rests (k .of) s s' → (j : ℕ) (f : Fills c i x (q .hole) j m s') → f .message ≡ record { location = w .location; value = valueOf s' d; thread = i }
-    fill-message s' rests j f =
-        let same = asked .store how a d is s' (rests .agreeing) in
+    -- a thread in which is so what the tries rest on, with a number that is sought, has a message to the same location
+    fill-place : (s' : Thread) → Rests (k .of) s s' → (j : ℕ) → q .from ≤ j → j < q .best → Fills c i x (q .hole) j m s' → address (valueOf s a) ≡ address (valueOf s' a)
+    fill-place s' rests j low high f =
+        ⊎-elim (λ same. same .place) (λ there.
         let v : storeMessage i a d s' ≡ f .message = Option·some-injective _ _ (sym (ap (messageOf i s') is) ∙ f .is-own) in
-        sym v ∙ ap (λ (y : ℕ). record { location = y; value = valueOf s' d; thread = i }) (sym (same .place) ∙ at)
+        let n : 256 * address (valueOf s' a) + valueOf s' d ≡ j = subst (λ (y : Message). 256 * y .location + y .value ≡ j) (sym v) (f .number) in
+        absurd (there .unsought out (valueOf s' d) (subst (λ (y : Message). y .value < 256) (sym v) (f .byte)) (subst (Seeks q) (sym n) (low, high))))
+        (asked .store how a d is s' (rests .agreeing))
 
-    fill-number : (s' : Thread) → Rests (k .of) s s' → (j : ℕ) → Fills c i x (q .hole) j m s' → 256 * w .location + valueOf s' d ≡ j
-    fill-number s' rests j f = subst (λ (y : Message). 256 * y .location + y .value ≡ j) (fill-message s' rests j f) (f .number)
+    fill-message : (s' : Thread) → Rests (k .of) s s' → (j : ℕ) → q .from ≤ j → j < q .best → (f : Fills c i x (q .hole) j m s') → f .message ≡ record { location = w .location; value = valueOf s' d; thread = i }
+    fill-message s' rests j low high f =
+        let v : storeMessage i a d s' ≡ f .message = Option·some-injective _ _ (sym (ap (messageOf i s') is) ∙ f .is-own) in
+        sym v ∙ ap (λ (y : ℕ). record { location = y; value = valueOf s' d; thread = i }) (sym (fill-place s' rests j low high f) ∙ at)
 
     -- its number is not sought: no such thread has a number that is
     pub fill-unsought : q .best ≤ r → Found (q .from) (q .best) (λ y j. Fills c i x (q .hole) j m y) s (record { best = q .best; cares = k })
     fill-unsought b =
         found-none (q .from) (q .best) (λ y j. Fills c i x (q .hole) j m y) s k (λ s' rests j low high f.
         let z = fills .number how a d is out in
-        z .1 .0 .missed (λ t. let n = subst (Seeks q) own-number t in let h = n .1 in l .least _ (n .0) (omega arith) refl) (valueOf s' d) (z .1 .1 s' (rests .agreeing))
-        (subst (Seeks q) (sym (ap (λ (y : ℕ). 256 * y + valueOf s' d) at ∙ fill-number s' rests j f)) (low, high)))
+        let e = fill-message s' rests j low high f in
+        let n : 256 * w .location + valueOf s' d ≡ j = subst (λ (y : Message). 256 * y .location + y .value ≡ j) e (f .number) in
+        z .1 .0 .missed (λ t. let n = subst (Seeks q) own-number t in let h = n .1 in l .least _ (n .0) (omega arith) refl) (valueOf s' d) (subst (λ (y : Message). y .value < 256) e (f .byte)) (z .1 .1 s' (rests .agreeing))
+        (subst (Seeks q) (sym (ap (λ (y : ℕ). 256 * y + valueOf s' d) at ∙ n)) (low, high)))
 
     module _ (under : r < q .best) where
+      own-sought : Seeks q (256 * address (valueOf s a) + valueOf s d)
+      own-sought = let hit = l .better .hit under in subst (Seeks q) (sym (own-number ∙ hit .1)) (hit .0, under)
+
       -- its number is sought: the value is the same
       same-data : (s' : Thread) → Agreeing (k .of) s s' → valueOf s d ≡ valueOf s' d
-      same-data s' agree =
-          let z = fills .number how a d is out in
-          let hit = l .better .hit under in
-          z .1 .0 .found (subst (Seeks q) (sym (own-number ∙ hit .1)) (hit .0, under)) (valueOf s' d) (z .1 .1 s' agree)
+      same-data s' agree = let z = fills .number how a d is out in z .1 .0 .found own-sought (valueOf s' d) (z .1 .1 s' agree)
 
-      same-message : (s' : Thread) → Rests (k .of) s s' → (j : ℕ) (f : Fills c i x (q .hole) j m s') → f .message ≡ w
-      same-message s' rests j f =
-          fill-message s' rests j f ∙ ap₂ (λ (y z : ℕ). record { location = y; value = z; thread = i }) (sym at) (sym (same-data s' (rests .agreeing))) ∙ sym we
+      same-message : (s' : Thread) → Rests (k .of) s s' → (j : ℕ) → q .from ≤ j → j < q .best → (f : Fills c i x (q .hole) j m s') → f .message ≡ w
+      same-message s' rests j low high f =
+          fill-message s' rests j low high f ∙ ap₂ (λ (y z : ℕ). record { location = y; value = z; thread = i }) (sym at) (sym (same-data s' (rests .agreeing))) ∙ sym we
 
       -- it stores the same, in every such thread
       pub settles : Settles (Store how a d) s (k .of)
-      settles = record { mode = how; a = a; d = d; is-store = refl; same = λ s' agree. (asked .store how a d is s' agree .place, same-data s' agree) }
+      settles = record { mode = how; a = a; d = d; is-store = refl; same = λ s' agree. (fills .place how a d is out (subst (λ (y : Message). y .value < 256) we byte) own-sought s' agree, same-data s' agree) }
 
       module _ (m' : Memory) (me : m' ≡ fill m (q .hole) w) where
         pub fill-here : T (onward (certified c i m') (execute (Store how a d) m' (q .hole) s)) → Found (q .from) (q .best) (λ y j. Fills c i x (q .hole) j m y) s (record { best = r; cares = k })
@@ -132,19 +138,20 @@ module _ (c : Code) (i : ℕ) (x : Instr) (m : Memory) (s : Thread) (q : Sought)
                   record {
                     message = w;
                     is-own = ap (messageOf i s) is ∙ ap some (sym we);
+                    byte = byte;
                     number = h .1;
                     keeps = subst (λ (y : Memory). T (onward (certified c i y) (execute x y (q .hole) s))) me (subst (λ (y : Instr). T (onward (certified c i m') (execute y m' (q .hole) s))) (sym is) t);
                   },
                 );
               };
-              barren = λ s' rests j u v f. l .least j u v (subst (λ (y : Message). 256 * y .location + y .value ≡ j) (same-message s' rests j f) (f .number));
+              barren = λ s' rests j u v f. let top = l .better .low in l .least j u v (subst (λ (y : Message). 256 * y .location + y .value ≡ j) (same-message s' rests j u (omega arith) f) (f .number));
             }
 
         pub fill-fails : (k' : Cares) → Covers (k' .of) (k .of) → ((s' : Thread) → Rests (k' .of) s s' → T (onward (certified c i m') (execute (Store how a d) m' (q .hole) s')) → ⊥)
             → Found (q .from) (q .best) (λ y j. Fills c i x (q .hole) j m y) s (record { best = q .best; cares = k' })
         fill-fails k' covers fails =
             found-none (q .from) (q .best) (λ y j. Fills c i x (q .hole) j m y) s k' (λ s' rests j u v f.
-            let in-hole : fill m (q .hole) (f .message) ≡ m' = ap (fill m (q .hole)) (same-message s' (rests-less covers rests) j f) ∙ sym me in
+            let in-hole : fill m (q .hole) (f .message) ≡ m' = ap (fill m (q .hole)) (same-message s' (rests-less covers rests) j u v f) ∙ sym me in
             fails s' rests (subst (λ (y : Instr). T (onward (certified c i m') (execute y m' (q .hole) s'))) is (subst (λ (y : Memory). T (onward (certified c i y) (execute x y (q .hole) s'))) in-hole (f .keeps))))
 
 -- the hole is at a time of the memory

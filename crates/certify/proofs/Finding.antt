@@ -1,21 +1,22 @@
 -- What is found, and what a failure rests on: cares that ask more, and threads in which an instruction can do no more than in the one that failed.
 -- Assumes nothing.
-use mathlib.Core.Path.{_≡_, refl}
+use mathlib.Core.Path.{_≡_, refl, sym, _∙_}
+use mathlib.Core.Logic.{_⊎_, ⊎-elim}
 use mathlib.Core.List.{List}
 use mathlib.Core.Option.{none, some}
 use Prim.Native.Nat.{ℕ, zero, suc, _≤_, _<_}
 use native.Mathlib.Nat.{le-refl}
 use native.Mathlib.Omega.{arith}
-use Rattle.machine.specs.Rules.{refused, next, execute}
+use Rattle.machine.specs.Rules.{refused, next, valueOf, address, execute}
 use Rattle.cares.specs.Cares.{Covers}
 use Rattle.cares.specs.declared.Cares.{Cares}
-use Rattle.certify.specs.Below.{Code, Instr, Compute, Load, Store, Branch, Fence, Memory, Thread}
-use Rattle.certify.specs.Asks.{Asks}
+use Rattle.certify.specs.Below.{Code, Operand, StoreMode, Instr, Compute, Load, Store, Branch, Fence, Memory, Thread}
+use Rattle.certify.specs.Asks.{Sought, Elsewhere, StoresSame, Asks}
 use Rattle.certify.specs.Runs.{Comes, done, by, own}
 use Rattle.certify.specs.Sought.{Reached, Found}
 use Rattle.certify.specs.Straight.{plainly}
-use Rattle.certify.specs.Under.{Rests}
-use Rattle.certify.proofs.Resting.{load-too-rests, store-too, store-value}
+use Rattle.certify.specs.Under.{Under, Rests}
+use Rattle.certify.proofs.Resting.{load-too-rests, store-too, store-at}
 
 -- ---- cares that ask more
 pub covers-self : (k : List ℕ) → Covers k k
@@ -27,7 +28,7 @@ covers-on f g = record { agreeing = λ s s' a. g .agreeing s s' (f .agreeing s s
 pub rests-less : {k l : List ℕ} {s s' : Thread} → Covers k l → Rests k s s' → Rests l s s'
 rests-less {s = s} {s'} f h = record { under = h .under; agreeing = f .agreeing s s' (h .agreeing) }
 
-pub asks-less : {x : Instr} {m : Memory} {s : Thread} {k l : List ℕ} → Covers k l → Asks x m s l → Asks x m s k
+pub asks-less : {x : Instr} {m : Memory} {s : Thread} {q : Sought} {k l : List ℕ} → Covers k l → Asks x m s q l → Asks x m s q k
 asks-less {s = s} f asked =
     record {
       load = λ how r a b is s' agree. asked .load how r a b is s' (f .agreeing s s' agree);
@@ -61,20 +62,25 @@ other {n} {s} e = let z : _≡_ {A = ℕ} 0 1 = cc in omega arith
 pub no-thread-left : {s : Thread} → some s ≡ none → ⊥
 no-thread-left {s} e = let z : _≡_ {A = ℕ} 0 1 = cc in omega arith
 
+-- a thread in which is so what the tries of a store rest on stores the same, if it executes
+pub stores-same : {m : Memory} {s s' : Thread} {q : Sought} (how : StoreMode) (a d : Operand) → Under s s' → StoresSame m s a d s' ⊎ Elsewhere m (s .promises) q (address (valueOf s' a)) → (t : ℕ) (y' : Thread) → execute (Store how a d) m t s' ≡ next y' → StoresSame m s a d s'
+stores-same {m} {s} {s'} how a d under same t y' e =
+    ⊎-elim (λ here. here) (λ there. let at = store-at m how a d s s' under t y' e in absurd (there .unpromised t (at .0) (at .1) (at .2))) same
+
 -- what a thread does in which is so what the tries rest on, the one that failed can do
-pub does-too : (x : Instr) (m : Memory) (s s' : Thread) (k : List ℕ) → plainly x s ≡ none → Asks x m s k → Rests k s s' → (t : ℕ) (y' : Thread) → execute x m t s' ≡ next y'
+pub does-too : (x : Instr) (m : Memory) (s s' : Thread) (q : Sought) (k : List ℕ) → plainly x s ≡ none → Asks x m s q k → Rests k s s' → (t : ℕ) (y' : Thread) → execute x m t s' ≡ next y'
     → (y : Thread) × (execute x m t s ≡ next y)
 unfolding plainly
-does-too (Compute how r a b) m s s' k halting asked rests t y' e = absurd (no-thread-left halting)
-does-too (Load how r a b) m s s' k halting asked rests t y' e =
+does-too (Compute how r a b) m s s' q k halting asked rests t y' e = absurd (no-thread-left halting)
+does-too (Load how r a b) m s s' q k halting asked rests t y' e =
     let near = asked .load how r a b refl s' (rests .agreeing) in
     load-too-rests m how r a b s s' (rests .under) (near .0) (near .1) t y' e
-does-too (Store how a d) m s s' k halting asked rests t y' e =
-    let same = asked .store how a d refl s' (rests .agreeing) in
-    let at = store-value m how a d s s' (rests .under) (same .place) t y' e in
-    store-too m how a d s s' (rests .under) (same .place) t y' (same .data-kept t (at .0) (at .1) (at .2) (at .3)) e
-does-too (Branch n a b) m s s' k halting asked rests t y' e = absurd (no-thread-left halting)
-does-too (Fence how) m s s' k halting asked rests t y' e = absurd (no-thread-left halting)
+does-too (Store how a d) m s s' q k halting asked rests t y' e =
+    let same = stores-same {q = q} how a d (rests .under) (asked .store how a d refl s' (rests .agreeing)) t y' e in
+    let at = store-at m how a d s s' (rests .under) t y' e in
+    store-too m how a d s s' (rests .under) (same .place) t y' (same .data-kept t (at .0) (at .1) (at .2 ∙ sym (same .place)) (at .3)) e
+does-too (Branch n a b) m s s' q k halting asked rests t y' e = absurd (no-thread-left halting)
+does-too (Fence how) m s s' q k halting asked rests t y' e = absurd (no-thread-left halting)
 
 -- ---- runs to another goal
 pub comes-as : {Goal Goal' : Memory → Thread → Type 0} {Room : Memory → Type 0} {c : Code} {i : ℕ} → ((m : Memory) (s : Thread) → Goal m s → Goal' m s) → {m : Memory} {s : Thread} → Comes Goal Room c i m s → Comes Goal' Room c i m s

@@ -21,3 +21,4 @@ pub mod Stores
 pub mod Missing
 pub mod Owning
 pub mod Reaching
+pub mod Places

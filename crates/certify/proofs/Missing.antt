@@ -33,7 +33,7 @@ use Rattle.certify.proofs.Fit.{comes-fit}
 use Rattle.certify.proofs.Numbers.{better-same}
 use Rattle.certify.proofs.Asking.{load-same, load-not-store}
 use Rattle.certify.proofs.Resting.{load-rests, store-rests}
-use Rattle.certify.proofs.Finding.{covers-self, rests-less, asks-less, other, no-thread-left, does-too}
+use Rattle.certify.proofs.Finding.{covers-self, rests-less, asks-less, other, no-thread-left, stores-same, does-too}
 use Rattle.certify.proofs.Stores.{aim-fits}
 
 -- ---- the times noted
@@ -50,13 +50,13 @@ noted-at counted t v u tried e = elim (decLt t (length counted)) [
 
 module _ (c : Code) (i : ℕ) (m : Memory) (s : Thread) (x : Instr) (q : Sought) where
   -- no time was tried yet
-  pub missed-none : (best t : ℕ) (k : Cares) (counted : List ℕ) → plainly x s ≡ none → Asks x m s (k .of) → ((u : ℕ) → countedAt counted u ≡ 3) → Earliest x m s t
+  pub missed-none : (best t : ℕ) (k : Cares) (counted : List ℕ) → plainly x s ≡ none → (o₁ : Sought) → Asks x m s o₁ (k .of) → ((u : ℕ) → countedAt counted u ≡ 3) → Earliest x m s t
       → Missed c i m s x q (record { best = best; tries = 0; cares = k; counted = counted }) t
-  missed-none best t k counted halting asked untried o =
+  missed-none best t k counted halting o₁ asked untried o =
       record {
         halting = halting;
-        asked = asked;
-        missed = λ u s' y l rests e j a b w. let mine = does-too x m s s' (k .of) halting asked rests u y e in o .before u (mine .0) l (mine .1);
+        asked = (o₁, asked);
+        missed = λ u s' y l rests e j a b w. let mine = does-too x m s s' o₁ (k .of) halting asked rests u y e in o .before u (mine .0) l (mine .1);
         failed = λ how r a b is u tried. absurd (tried (untried u));
       }
 
@@ -67,7 +67,7 @@ module _ (c : Code) (i : ℕ) (m : Memory) (s : Thread) (x : Instr) (q : Sought)
         halting = h .halting;
         asked = h .asked;
         missed = λ u s' y l rests e j a b w. elim (decLt t u) [
-          | yes late ↦ (let mine = does-too x m s s' (p .cares .of) (h .halting) (h .asked) rests u y e in on .between u (mine .0) late l (mine .1))
+          | yes late ↦ (let mine = does-too x m s s' (h .asked .0) (p .cares .of) (h .halting) (h .asked .1) rests u y e in on .between u (mine .0) late l (mine .1))
           | no early ↦ h .missed u s' y (omega arith) rests e j a b w
         ];
         failed = h .failed;
@@ -95,7 +95,7 @@ module _ (c : Code) (i : ℕ) (m : Memory) (s : Thread) (x : Instr) (q : Sought)
     pub went-refused : (u : Ruled) → u ≡ ruled s (execute x m t s) → (n : ℕ) → u .answer ≡ Refused n → Went c i m s x q p t p
     went-refused u e n z =
         unchanged (λ s' y rests d j a b w.
-        let mine = does-too x m s s' (p .cares .of) (known .halting) (known .asked) rests t y d in
+        let mine = does-too x m s s' (known .asked .0) (p .cares .of) (known .halting) (known .asked .1) rests t y d in
         other (sym (ruled-refused s (execute x m t s) u n e z) ∙ mine .1))
 
     -- too few stores are left
@@ -119,7 +119,7 @@ module _ (c : Code) (i : ℕ) (m : Memory) (s : Thread) (x : Instr) (q : Sought)
             let d = v .doubled in
             let u = d .time in
             let f = known .failed (v .mode) (v .register) (v .a) (v .b) (v .is-load) u (d .tried) in
-            let near = known .asked .load (v .mode) (v .register) (v .a) (v .b) (v .is-load) s' (rests .agreeing) in
+            let near = known .asked .1 .load (v .mode) (v .register) (v .a) (v .b) (v .is-load) s' (rests .agreeing) in
             let written = subst (λ (k : ℕ). Agrees k (readValue m u) (readValue m t)) (sym (f .noted)) (d .alike) in
             f .barren y
             (load-rests m (v .mode) (v .register) (v .a) (v .b) s s' (rests .under) (near .0) (near .1) (f .cares) (f .among s' (rests .agreeing)) u t written (d .low) (f .after) y (load u s (f .after) (f .does)) (load t s' y e))
@@ -174,7 +174,7 @@ module _ (c : Code) (i : ℕ) (m : Memory) (s : Thread) (x : Instr) (q : Sought)
             covers = covers;
             known = record {
               halting = known .halting;
-              asked = asks-less covers (known .asked);
+              asked = (known .asked .0, asks-less covers (known .asked .1));
               missed = λ u s' v l rests d j a b z.
                   let low = found .better .low in
                   elim (decLt u t) [
@@ -196,7 +196,7 @@ module _ (c : Code) (i : ℕ) (m : Memory) (s : Thread) (x : Instr) (q : Sought)
 
           follows : (s' v : Thread) → Rests (r .cares .of) s s' → execute x m t s' ≡ next v → Rests (sub .cares .of) y v
           follows s' v rests d =
-              let near = known .asked .load how j a b is s' (n .covers .agreeing s s' (rests .agreeing)) in
+              let near = known .asked .1 .load how j a b is s' (n .covers .agreeing s s' (rests .agreeing)) in
               load-rests m how j a b s s' (rests .under) (near .0) (near .1) (sub .cares .of) (z .2 s s' (rests .agreeing)) t t (same refl) (le-refl _) y v (load t s y does) (load t s' v d)
 
           here : (u : ℕ) → (countedAt (r .counted) u ≡ 3 → ⊥) → u ≡ t → Failed c i m s x q r j u
@@ -222,7 +222,7 @@ module _ (c : Code) (i : ℕ) (m : Memory) (s : Thread) (x : Instr) (q : Sought)
       pub went-store : (how : StoreMode) (a d : Operand) → x ≡ Store how a d → (r : Tried) → Noted x t p sub r → Went c i m s x q p t r
       went-store how a d is r n =
           goes-on r (z .0) (n .covers) (λ s' v rests e.
-          let near = known .asked .store how a d is s' (n .covers .agreeing s s' (rests .agreeing)) in
+          let near = stores-same {q = known .asked .0} how a d (rests .under) (known .asked .1 .store how a d is s' (n .covers .agreeing s s' (rests .agreeing))) t v (store s' v e) in
           store-rests m how a d s s' (rests .under) (near .place) (sub .cares .of) (z .2 s s' (rests .agreeing)) t y v (store s y does) (store s' v e))
           (λ how' j' a' b' is' u tried. absurd (load-not-store how' how j' a' a b' d (sym is' ∙ is)))
         where

@@ -1,12 +1,13 @@
 -- A store that appends its own message: what the thread comes to from there, and what a failure rests on.
 -- Assumes nothing.
 use mathlib.Core.Path.{_≡_, refl, sym, ap, ap₂, subst, _∙_}
-use mathlib.Core.Bool.{Bool, true}
+use mathlib.Core.Logic.{_⊎_, ⊎-elim}
+use mathlib.Core.Bool.{Bool, true, not}
 use mathlib.Core.Option.{none, Option·some-injective}
 use Prim.Native.Nat.{ℕ, _+_, _≤_, _<_}
 use native.Mathlib.Omega.{arith}
 use lib.Count.{ones}
-use lib.Dec.{ltb}
+use borrow.Author.Tests.{not-true}
 use Rattle.source.specs.Counts.{storesFrom}
 use Rattle.source.proofs.Counts.{stores-fall}
 use Rattle.machine.specs.State.{append}
@@ -18,16 +19,15 @@ use Rattle.machine.proofs.Cases.{ruled-done, ruled-refused}
 use Rattle.machine.proofs.Effects.{effect, moves}
 use Rattle.cares.specs.Cares.{Agrees, Agreeing, Covers}
 use Rattle.cares.specs.declared.Cares.{Cares}
-use Rattle.cares.proofs.Agreeing.{same-value}
-use Rattle.certify.specs.Below.{Code, Operand, Constant, OfRegister, StoreMode, Instr, Store, Message, Memory, Thread}
+use Rattle.cares.proofs.Agreeing.{same-value, same-address}
+use Rattle.certify.specs.Below.{Code, Operand, Constant, OfRegister, StoreMode, Instr, Compute, Load, Store, Branch, Fence, Message, Memory, Thread}
 use Rattle.certify.specs.Certify.{messageOf}
-use Rattle.certify.specs.Asks.{Asks}
-use Rattle.certify.specs.Sought.{Sought, Reached, Meets, Owns, Found}
+use Rattle.certify.specs.Sought.{Sought, Reached, Meets, Owns, Found, Appends}
 use Rattle.certify.specs.Under.{Rests}
 use Rattle.certify.proofs.Fit.{no-message, own-effect, own-leaves, comes-fit}
 use Rattle.certify.proofs.Resting.{promise-rests, store-too, store-rests}
 use Rattle.certify.proofs.Finding.{rests-less, found-none, other}
-use Rattle.certify.proofs.Stores.{crowds, aim-fits}
+use Rattle.certify.proofs.Stores.{aim-fits}
 
 -- a promise changes no register
 value-promised : (m : Memory) (s : Thread) (a : Operand) → valueOf (addPromise m s) a ≡ valueOf s a
@@ -38,27 +38,38 @@ module _ (c : Code) (i : ℕ) (m : Memory) (s : Thread) (x : Instr) (q : Sought)
   pub owns-none : ((y : Thread) → messageOf i y x ≡ none) → Found (q .from) (q .best) (λ y j. Owns c i m y x (q .hole) j) s (record { best = q .best; cares = k })
   owns-none e = found-none (q .from) (q .best) (λ y j. Owns c i m y x (q .hole) j) s k (λ s' rests j a b w. no-message (sym (e s') ∙ w .is-own))
 
-  pub owns-full : 16 ≤ m .count → Found (q .from) (q .best) (λ y j. Owns c i m y x (q .hole) j) s (record { best = q .best; cares = k })
-  owns-full h = found-none (q .from) (q .best) (λ y j. Owns c i m y x (q .hole) j) s k (λ s' rests j a b w. let l = w .fewer in omega arith)
-
-  -- too few stores are left after it
-  pub owns-crowded : (n : ℕ) → n ≡ s .position + 1 → (b : Bool) → b ≡ ltb (storesFrom c n) (ones (s .promises)) → b ≡ true
+  -- there is no room, or too few stores are left after it
+  owns-never : (k₁ : StoreMode) (a d : Operand) → x ≡ Store k₁ a d → (16 ≤ m .count) ⊎ (storesFrom c (s .position + 1) < ones (s .promises))
       → Found (q .from) (q .best) (λ y j. Owns c i m y x (q .hole) j) s (record { best = q .best; cares = k })
-  owns-crowded n ne b be bt =
+  owns-never k₁ a d is full =
       found-none (q .from) (q .best) (λ y j. Owns c i m y x (q .hole) j) s k (λ s' rests j l h w.
+      ⊎-elim (λ none. let few = w .fewer in omega arith) (λ few.
       let f = comes-fit (aim-fits c i (q .hole) j) (w .goes-on) in
       let does = effect x (append m (w .message)) ((append m (w .message)) .count) (addPromise (append m (w .message)) s') (w .after) (w .does) in
       let p = ap ones (own-leaves (own-effect i m (w .message) s' (w .is-own) does)) in
       let out = ap ones (rests .under .same-promises) in
       let at = rests .under .same-position in
       let z = moves does in
-      let u = stores-fall c n ((w .after) .position) (omega arith) in
-      let v = crowds (storesFrom c n) (ones (s .promises)) b be bt in
-      omega arith)
+      let u = stores-fall c (s .position + 1) ((w .after) .position) (omega arith) in
+      omega arith) full)
 
-  -- the store is noted to rest on its data
-  module _ (how : StoreMode) (a d : Operand) (is : x ≡ Store how a d) (few : m .count < 16) (u : Ruled) (e : u ≡ ruled s (ownStore how a d m i s)) (asked : Asks x m s (k .of))
-      (settled : Cares) (noted : (v v' : Thread) → Agreeing (settled .of) v v' → Agreeing (k .of) v v' × Agrees 2 (valueOf v d) (valueOf v' d)) where
+  -- it is not tried
+  pub owns-untried : (b : Bool) → Appends c m s x b → not b ≡ true → Found (q .from) (q .best) (λ y j. Owns c i m y x (q .hole) j) s (record { best = q .best; cares = k })
+  owns-untried b h n = go x refl
+    where
+      no-message-of : (o : Instr) → ((y : Thread) → messageOf i y o ≡ none) → x ≡ o → Found (q .from) (q .best) (λ y j. Owns c i m y x (q .hole) j) s (record { best = q .best; cares = k })
+      no-message-of o silent e = owns-none (λ y. ap (messageOf i y) e ∙ silent y)
+
+      go : (o : Instr) → x ≡ o → Found (q .from) (q .best) (λ y j. Owns c i m y x (q .hole) j) s (record { best = q .best; cares = k })
+      go (Compute how r a b) e = no-message-of (Compute how r a b) (λ y. refl) e
+      go (Load how r a b) e = no-message-of (Load how r a b) (λ y. refl) e
+      go (Store how a d) e = owns-never how a d e (h .never (not-true b n) how a d e)
+      go (Branch how a b) e = no-message-of (Branch how a b) (λ y. refl) e
+      go (Fence how) e = no-message-of (Fence how) (λ y. refl) e
+
+  -- the store is noted to rest on its location and data
+  module _ (how : StoreMode) (a d : Operand) (is : x ≡ Store how a d) (few : m .count < 16) (u : Ruled) (e : u ≡ ruled s (ownStore how a d m i s)) (settled : Cares)
+      (near : (v v' : Thread) → Agreeing (settled .of) v v' → Agrees 1 (valueOf v a) (valueOf v' a)) (noted : (v v' : Thread) → Agreeing (settled .of) v v' → Agrees 2 (valueOf v d) (valueOf v' d)) where
     w : Message
     w = storeMessage i a d s
 
@@ -66,10 +77,10 @@ module _ (c : Code) (i : ℕ) (m : Memory) (s : Thread) (x : Instr) (q : Sought)
     m' = append m w
 
     same-place : (s' : Thread) → Rests (settled .of) s s' → address (valueOf s a) ≡ address (valueOf s' a)
-    same-place s' rests = asked .store how a d is s' (noted s s' (rests .agreeing) .0) .place
+    same-place s' rests = same-address (near s s' (rests .agreeing))
 
     same-data : (s' : Thread) → Rests (settled .of) s s' → valueOf s d ≡ valueOf s' d
-    same-data s' rests = same-value (noted s s' (rests .agreeing) .1)
+    same-data s' rests = same-value (noted s s' (rests .agreeing))
 
     promised-place : (s' : Thread) → Rests (settled .of) s s' → address (valueOf (addPromise m' s) a) ≡ address (valueOf (addPromise m' s') a)
     promised-place s' rests = ap address (value-promised m' s a) ∙ same-place s' rests ∙ sym (ap address (value-promised m' s' a))

@@ -1,6 +1,6 @@
 -- What a failure rests on, through one instruction: where it is so before, and of what is written, it is so after.
 -- Assumes nothing.
-use mathlib.Core.Path.{_≡_, refl, sym, _∙_, subst}
+use mathlib.Core.Path.{_≡_, refl, sym, subst}
 use mathlib.Core.List.{List}
 use Prim.Native.Nat.{ℕ, _≤_}
 use native.Mathlib.Nat.{le-trans}
@@ -83,10 +83,10 @@ module _ (m : Memory) (k : StoreMode) (a d : Operand) (s s' : Thread) (h : Under
       go : (y y' : Thread) → Effect m t s (Store k a d) y → Effect m t s' (Store k a d) y' → Rests K y y'
       go y y' (stored p x z) (stored p' x' z') = record { under = store-under s s' h k a d near-a t; agreeing = all }
 
-  -- what s' stored stands at a promise of s too
-  pub store-value : (t : ℕ) (y' : Thread) → execute (Store k a d) m t s' ≡ next y'
-      → T (has (s .promises) t) × (t ≤ m .count) × ((messageAt m t) .location ≡ address (valueOf s a)) × ((messageAt m t) .value ≡ valueOf s' d)
-  store-value t y' e = go y' (effect (Store k a d) m t s' y' e)
-    where
-      go : (y' : Thread) → Effect m t s' (Store k a d) y' → T (has (s .promises) t) × (t ≤ m .count) × ((messageAt m t) .location ≡ address (valueOf s a)) × ((messageAt m t) .value ≡ valueOf s' d)
-      go y' (stored p x z) = (subst (λ (q : ℕ). T (has q t)) (sym (h .same-promises)) (p .out), p .in-memory, p .at-location ∙ sym near-a, p .at-value)
+-- what s' stored stands at a promise of s too
+pub store-at : (m : Memory) (k : StoreMode) (a d : Operand) (s s' : Thread) → Under s s' → (t : ℕ) (y' : Thread) → execute (Store k a d) m t s' ≡ next y'
+    → T (has (s .promises) t) × (t ≤ m .count) × ((messageAt m t) .location ≡ address (valueOf s' a)) × ((messageAt m t) .value ≡ valueOf s' d)
+store-at m k a d s s' h t y' e = go y' (effect (Store k a d) m t s' y' e)
+  where
+    go : (y' : Thread) → Effect m t s' (Store k a d) y' → T (has (s .promises) t) × (t ≤ m .count) × ((messageAt m t) .location ≡ address (valueOf s' a)) × ((messageAt m t) .value ≡ valueOf s' d)
+    go y' (stored p x z) = (subst (λ (q : ℕ). T (has q t)) (sym (h .same-promises)) (p .out), p .in-memory, p .at-location, p .at-value)

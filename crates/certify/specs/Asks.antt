@@ -1,6 +1,7 @@
 -- What the tries of a load or store rest on, whatever comes after them.
 -- Assumes nothing.
 use mathlib.Core.Path.{_≡_}
+use mathlib.Core.Logic.{_⊎_}
 use mathlib.Core.List.{List}
 use Prim.Native.Nat.{ℕ, _+_, _*_, _≤_, _<_}
 use lib.Dec.{T}
@@ -18,25 +19,42 @@ OtherValues m p l v end r = (y u : ℕ) → Agrees r v y → T (has p u) → u <
 abbrev pub Seeks : Sought → ℕ → Type 0
 Seeks q n = (q .from ≤ n) × (n < q .best)
 
--- a value y that agrees with v by the care k makes a store to l one of a number that is sought only if v does, and is v then
+-- a byte y that agrees with v by the care k makes a store to l one of a number that is sought only if v does, and is v then
 pub record Unsought (q : Sought) (l v k : ℕ) : Type 0 where
   pub found : Seeks q (256 * l + v) → (y : ℕ) → Agrees k v y → v ≡ y
-  pub missed : (Seeks q (256 * l + v) → ⊥) → (y : ℕ) → Agrees k v y → Seeks q (256 * l + y) → ⊥
+  pub missed : (Seeks q (256 * l + v) → ⊥) → (y : ℕ) → y < 256 → Agrees k v y → Seeks q (256 * l + y) → ⊥
+
+-- no promise of the set p is at location l, and where the hole is among them, no number that is sought is
+pub record Elsewhere (m : Memory) (p : ℕ) (q : Sought) (l : ℕ) : Type 0 where
+  pub unpromised : (u : ℕ) → T (has p u) → u ≤ m .count → (messageAt m u) .location ≡ l → ⊥
+  pub unsought : T (has p (q .hole)) → (v : ℕ) → v < 256 → Seeks q (256 * l + v) → ⊥
+
+-- e is the only location of promises before the time end, and of numbers that are sought where the hole is among them; 16 if there is none
+pub record OnlyAt (m : Memory) (p : ℕ) (q : Sought) (e end : ℕ) : Type 0 where
+  pub promised : (u : ℕ) → T (has p u) → u < end → u ≤ m .count → (messageAt m u) .location < 16 → (messageAt m u) .location ≡ e
+  pub sought : T (has p (q .hole)) → (l v : ℕ) → l < 16 → v < 256 → Seeks q (256 * l + v) → l ≡ e
+
+-- an address y that agrees by the care k with an address x of l is of l too, or of a location elsewhere; of l, if a number there is sought
+pub record PlaceCare (m : Memory) (p : ℕ) (q : Sought) (l k : ℕ) : Type 0 where
+  pub apart : (x y : ℕ) → address x ≡ l → Agrees k x y → (address x ≡ address y) ⊎ Elsewhere m p q (address y)
+  pub here : T (has p (q .hole)) → (v : ℕ) → v < 256 → Seeks q (256 * l + v) → (x y : ℕ) → address x ≡ l → Agrees k x y → address x ≡ address y
 
 -- a thread whose registers agree stores to the same location, and the same value if it fulfils a promise
 pub record StoresSame (m : Memory) (s : Thread) (a d : Operand) (s' : Thread) : Type 0 where
   pub place : address (valueOf s a) ≡ address (valueOf s' a)
   pub data-kept : (u : ℕ) → T (has (s .promises) u) → u ≤ m .count → (messageAt m u) .location ≡ address (valueOf s a) → (messageAt m u) .value ≡ valueOf s' d → valueOf s d ≡ valueOf s' d
 
--- the registers that agree by the cares make a load's location and a store the same
-pub record Asks (x : Instr) (m : Memory) (s : Thread) (cares : List ℕ) : Type 0 where
+-- the registers that agree by the cares make a load's location the same, and a store the same, or one elsewhere
+pub record Asks (x : Instr) (m : Memory) (s : Thread) (q : Sought) (cares : List ℕ) : Type 0 where
   pub load : (k : LoadMode) (r : ℕ) (a b : Operand) → x ≡ Load k r a b → (s' : Thread) → Agreeing cares s s'
       → (address (valueOf s a) ≡ address (valueOf s' a)) × (address (valueOf s b) ≡ address (valueOf s' b))
-  pub store : (k : StoreMode) (a d : Operand) → x ≡ Store k a d → (s' : Thread) → Agreeing cares s s' → StoresSame m s a d s'
+  pub store : (k : StoreMode) (a d : Operand) → x ≡ Store k a d → (s' : Thread) → Agreeing cares s s' → StoresSame m s a d s' ⊎ Elsewhere m (s .promises) q (address (valueOf s' a))
 
--- where the hole is outstanding, they make the number of a store one that is sought only if it is, with the same value then
+-- where the hole is outstanding, they make the number of a store one that is sought only if it is; it has the same location and value then
 pub record FillsSame (x : Instr) (s : Thread) (q : Sought) (cares : List ℕ) : Type 0 where
   pub number : (k : StoreMode) (a d : Operand) → x ≡ Store k a d → T (has (s .promises) (q .hole)) → (c : ℕ) × (Unsought q (address (valueOf s a)) (valueOf s d) c × ((s' : Thread) → Agreeing cares s s' → Agrees c (valueOf s d) (valueOf s' d)))
+  pub place : (k : StoreMode) (a d : Operand) → x ≡ Store k a d → T (has (s .promises) (q .hole)) → valueOf s d < 256 → Seeks q (256 * address (valueOf s a) + valueOf s d)
+      → (s' : Thread) → Agreeing cares s s' → address (valueOf s a) ≡ address (valueOf s' a)
 
 -- the instruction is a store, and stores the same
 pub record Settles (x : Instr) (s : Thread) (cares : List ℕ) : Type 0 where

@@ -2,6 +2,7 @@
 -- Assumes nothing.
 use mathlib.Core.Path.{_≡_}
 use mathlib.Core.Logic.{_⊎_}
+use mathlib.Core.Bool.{Bool, true, false}
 use mathlib.Core.List.{List}
 use mathlib.Core.Option.{none, some}
 use Prim.Native.Nat.{ℕ, _+_, _-_, _*_, _≤_, _<_}
@@ -32,6 +33,7 @@ fill m h w = record { count = m .count; messages = set (m .messages) (h - 1) w }
 pub record Fills (c : Code) (i : ℕ) (x : Instr) (h k : ℕ) (m : Memory) (s : Thread) : Type 0 where
   pub message : Message
   pub is-own : messageOf i s x ≡ some message
+  pub byte : message .value < 256
   pub number : 256 * message .location + message .value ≡ k
   pub keeps : T (onward (certified c i (fill m h message)) (execute x (fill m h message) h s))
 
@@ -67,6 +69,11 @@ pub record Found (from best : ℕ) (P : Thread → ℕ → Type 0) (s : Thread) 
   pub better : Better from best (P s) (r .best)
   pub barren : (s' : Thread) → Rests (r .cares .of) s s' → (k : ℕ) → from ≤ k → k < r .best → P s' k → ⊥
 
+-- where the instruction is a store: b is true only if fewer than 16 messages stand, and false only if not, or if too few stores are left after it
+pub record Appends (c : Code) (m : Memory) (s : Thread) (x : Instr) (b : Bool) : Type 0 where
+  pub room : b ≡ true → m .count < 16
+  pub never : b ≡ false → (k : StoreMode) (a d : Operand) → x ≡ Store k a d → (16 ≤ m .count) ⊎ (storesFrom c (s .position + 1) < ones (s .promises))
+
 -- nothing can come of a try at time t: it is in vain, or more promises are outstanding than stores are left
 abbrev pub Hopeless : Code → Memory → Thread → Instr → List ℕ → ℕ → Type 0
 Hopeless c m s x counted t = Vain m s x counted t ⊎ (storesFrom c (s .position) < ones (s .promises))
@@ -83,7 +90,7 @@ pub record Failed (c : Code) (i : ℕ) (m : Memory) (s : Thread) (x : Instr) (q 
 -- what is known before time t of the tries of a load or store: no thread in which is so what they rest on comes, by executing it before t, to a number from `from` on and below the best one found
 pub record Missed (c : Code) (i : ℕ) (m : Memory) (s : Thread) (x : Instr) (q : Sought) (p : Tried) (t : ℕ) : Type 0 where
   pub halting : plainly x s ≡ none
-  pub asked : Asks x m s (p .cares .of)
+  pub asked : (o : Sought) × Asks x m s o (p .cares .of)
   pub missed : (u : ℕ) (s' y : Thread) → u < t → Rests (p .cares .of) s s' → execute x m u s' ≡ next y → (k : ℕ) → q .from ≤ k → k < p .best → Meets c i m y (q .hole) k → ⊥
   pub failed : (k : LoadMode) (r : ℕ) (a b : Operand) → x ≡ Load k r a b → (u : ℕ) → (countedAt (p .counted) u ≡ 3 → ⊥) → Failed c i m s x q p r u
 

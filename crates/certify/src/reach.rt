@@ -1,7 +1,7 @@
 // What the runs of a thread alone come to: one search of them, times ascending, for all that asks; and what a failure rests on.
 ghost use mathlib.Core.Path.{_≡_};
 ghost use mathlib.Core.Bool.{true};
-ghost use Prim.Native.Nat.{_≤_, _<_};
+ghost use Prim.Native.Nat.{_+_, _≤_, _<_};
 ghost use lib.Count.{ones};
 ghost use lib.Dec.{T, ltb};
 ghost use Rattle.source.specs.Counts.{storesFrom};
@@ -10,7 +10,7 @@ ghost use Rattle.cares.specs.Cares.{Covers};
 ghost use Rattle.certify.specs.Certify.{onward, certified};
 ghost use Rattle.certify.specs.Answers.{Ready, Trying};
 ghost use Rattle.certify.specs.Asks.{Asks, FillsSame, Settles};
-ghost use Rattle.certify.specs.Sought.{fill, Fills, Least, Meets, Owns, Found, Hopeless, Missed, Went, Noted};
+ghost use Rattle.certify.specs.Sought.{fill, Fills, Least, Meets, Owns, Found, Appends, Hopeless, Missed, Went, Noted};
 use crate::Sought;
 use crate::asks::asks;
 use crate::own_message;
@@ -145,6 +145,25 @@ fn noted(x: Instr, t: u8, p: Tried, sub: Reached) -> Tried
     }
 }
 
+// A store can append its own message, and stores enough are left then.
+fn appends(c: Code, m: Memory, s: Thread, x: Instr) -> bool
+    requires { ⌜ (c .count ≤ 16) × (s .position + 1 < 256) ⌝ }
+    ensures { λ r. ⌜ Appends c m s x r ⌝ }
+{
+    match x {
+        Instr::Store(_, _, _) => {
+            if 16 <= m.count {
+                return false;
+            }
+            !crowded(c, s.position + 1, s)
+        }
+        Instr::Load(_, _, _, _) => false,
+        Instr::Compute(_, _, _, _) => false,
+        Instr::Branch(_, _, _) => false,
+        Instr::Fence(_) => false,
+    }
+}
+
 // The least number that a run from here comes to, if it is sought.
 pub fn least_reached(c: Code, i: u8, m: Memory, s: Thread, q: Sought) -> u16
     requires { ⌜ Ready c m s ⌝ }
@@ -175,7 +194,8 @@ fn search_runs(c: Code, i: u8, m: Memory, s: Thread, q: Sought) -> Reached
     }
     let x = c.instr_at(y.position);
     let less = q.below(now);
-    let here = filled(c, i, m, y, x, less, asks(x, m, y, less));
+    let appending = appends(c, m, y, x);
+    let here = filled(c, i, m, y, x, less, asks(x, m, y, less, appending));
     let mut t = earliest(x, m, y);
     let asked = here.cares;
     let mut r = Tried {
@@ -194,7 +214,7 @@ fn search_runs(c: Code, i: u8, m: Memory, s: Thread, q: Sought) -> Reached
         }
         t = following(x, m, y, t);
     }
-    let own = own_reached(c, i, m, y, x, q.below(r.best), r.cares);
+    let own = own_reached(c, i, m, y, x, q.below(r.best), r.cares, appending);
     let rests = own.cares;
     Reached {
         best: own.best,
@@ -204,7 +224,7 @@ fn search_runs(c: Code, i: u8, m: Memory, s: Thread, q: Sought) -> Reached
 
 // The number of a store that fills the hole, if there is one and it is sought. Where the hole is the only promise, nothing is left to keep.
 fn filled(c: Code, i: u8, m: Memory, s: Thread, x: Instr, q: Sought, k: Cares) -> Reached
-    requires { ⌜ Trying c m s x × (Asks x m s (k .of) × FillsSame x s q (k .of)) ⌝ }
+    requires { ⌜ Trying c m s x × (Asks x m s q (k .of) × FillsSame x s q (k .of)) ⌝ }
     ensures { λ r. ⌜ Found (q .from) (q .best) (λ y j. Fills c i x (q .hole) j m y) s r × Covers (r .cares .of) (k .of) ⌝ }
 {
     if !has(s.promises, q.hole) {
@@ -314,8 +334,17 @@ fn try_at(c: Code, i: u8, m: Memory, s: Thread, x: Instr, t: u8, p: Tried, q: So
 }
 
 // A store appends its own message and fulfils it at once, and the thread goes on from there.
-fn own_reached(c: Code, i: u8, m: Memory, s: Thread, x: Instr, q: Sought, k: Cares) -> Reached
-    requires { ⌜ Trying c m s x × Asks x m s (k .of) ⌝ }
+fn own_reached(
+    c: Code,
+    i: u8,
+    m: Memory,
+    s: Thread,
+    x: Instr,
+    q: Sought,
+    k: Cares,
+    appending: bool,
+) -> Reached
+    requires { ⌜ Trying c m s x × Appends c m s x appending ⌝ }
     ensures { λ r. ⌜ Found (q .from) (q .best) (λ y j. Owns c i m y x (q .hole) j) s r × Covers (r .cares .of) (k .of) ⌝ }
 {
     let none = Reached {
@@ -325,15 +354,12 @@ fn own_reached(c: Code, i: u8, m: Memory, s: Thread, x: Instr, q: Sought, k: Car
     if q.best <= q.from {
         return none;
     }
+    if !appending {
+        return none;
+    }
     match x {
         Instr::Store(how, a, d) => {
-            if 16 <= m.count {
-                return none;
-            }
-            if crowded(c, s.position + 1, s) {
-                return none;
-            }
-            let settled = k.noting(d, 2);
+            let settled = k.noting(a, 1).noting(d, 2);
             let r = own_store(how, a, d, m, i, s);
             let answer = r.answer;
             let RuleAnswer::Done = answer else {

@@ -166,6 +166,7 @@ record Open (h k : ℕ) (m : Memory) (s : Thread) : Type 0 where
   room : m .count ≤ 16
   in-memory : h ≤ m .count
   out : T (has (s .promises) h)
+  byte : (messageAt m h) .value < 256
   number : 256 * (messageAt m h) .location + (messageAt m h) .value ≡ k
   locations : length (s .coherence) ≡ 16
   no-forward : (l : ℕ) → (getD (s .forward) l freshForward) .time ≢ h
@@ -173,7 +174,7 @@ record Open (h k : ℕ) (m : Memory) (s : Thread) : Type 0 where
 module _ (h k : ℕ) (m : Memory) (s : Thread) (d : Open h k m s) where
   -- it is so for another thread on the memory, by what is said of that thread
   kept : (s' : Thread) → T (has (s' .promises) h) → length (s' .coherence) ≡ 16 → ((l : ℕ) → (getD (s' .forward) l freshForward) .time ≢ h) → Open h k m s'
-  kept s' p c n = record { places = d .places; room = d .room; in-memory = d .in-memory; out = p; number = d .number; locations = c; no-forward = n }
+  kept s' p c n = record { places = d .places; room = d .room; in-memory = d .in-memory; out = p; byte = d .byte; number = d .number; locations = c; no-forward = n }
 
   -- no promise is at time 0
   positive : 0 < h
@@ -198,6 +199,7 @@ module _ (h k : ℕ) (m : Memory) (s : Thread) (d : Open h k m s) where
         room = omega arith;
         in-memory = omega arith;
         out = subst (λ (p : ℕ). T (has p h)) (sym (with-without (s .promises) (m .count + 1))) (d .out);
+        byte = subst (λ (z : Message). z .value < 256) (sym (message-stays m w h positive low)) (d .byte);
         number = ap (λ (z : Message). 256 * z .location + z .value) (message-stays m w h positive low) ∙ d .number;
         locations = length-raise (s .coherence) _ _ ∙ d .locations;
         no-forward = set-all (λ (z : Forward). z .time ≢ h) freshForward _ (s .forward) _ (d .no-forward) (λ q. omega (arith, low));
@@ -228,6 +230,7 @@ module _ (h k : ℕ) (m : Memory) (s : Thread) (d : Open h k m s) where
       record {
         message = w;
         is-own = refl;
+        byte = subst (λ (y : ℕ). y < 256) (p .at-value) (d .byte);
         number = ap₂ (λ (x y : ℕ). 256 * x + y) (sym (p .at-location)) (sym (p .at-value)) ∙ d .number;
         keeps = onward-next (certified c 0 full) (execute x full h s) _ (executes f) (certified-iff c 0 full _ .1 (same-run 0 q' room r));
       }
@@ -249,10 +252,10 @@ explored-run {c} {i} {h} {k} {m} {m'} {s} q d (own x w s' g gw few e r) =
     own x (o .0) s' g (o .1) (subst (λ (n : ℕ). n < 16) (q .same-count) few) (o .3) (explored-run (o .2) (open-own h k m s d few (own-effect i m w s gw f)) r)
 
 -- EXPLORATION LEAVES OUT NOTHING: a promise (l, v) after which the thread is certified is one that the exploration reaches
-pub explored-law : (c : Code) (i l v : ℕ) (m : Memory) (s : Thread) → Sound m s → m .count < 16
+pub explored-law : (c : Code) (i l v : ℕ) (m : Memory) (s : Thread) → Sound m s → v < 256 → m .count < 16
     → T (certified c i (append m (record { location = l; value = v; thread = i })) (addPromise (append m (record { location = l; value = v; thread = i })) s))
     → Reached c m s (256 * l + v)
-explored-law c i l v m s ok few h =
+explored-law c i l v m s ok small few h =
     explored-run
     (record {
       same-count = refl;
@@ -266,6 +269,7 @@ explored-law c i l v m s ok few h =
       room = omega arith;
       in-memory = omega arith;
       out = has-with (s .promises) (m .count) (ok .promises-in);
+      byte = subst (λ (z : Message). z .value < 256) (sym (newest y)) small;
       number = ap (λ (z : Message). 256 * z .location + z .value) (newest y);
       locations = ok .locations;
       no-forward = λ k q. let le = ok .forwards k in omega arith;

@@ -61,7 +61,7 @@ module _ (p : Program) (x : Machine) where
   reached-did mo (promised {i} {l} {v} h low byte room q) z =
       let o = mo .states i h in
       explored-law (codeOf p i) i l v (x .memory) (threadOf x i)
-      (record { places = mo .memory-ok .places; locations = o .locations; forwards = o .forward-times; promises-in = o .promises-in }) room q
+      (record { places = mo .memory-ok .places; locations = o .locations; forwards = o .forward-times; promises-in = o .promises-in }) byte room q
 
   module _ (i : ℕ) where
     -- ---- times

@@ -1,12 +1,12 @@
 -- `cares::agrees` meets its contract: one case for each kind of care.
 -- Assumes nothing.
 use mathlib.Core.Path.{_≡_, sym, subst}
-use Prim.Native.Nat.{ℕ, _+_}
+use Prim.Native.Nat.{ℕ, _+_, _%_}
 use native.Mathlib.Omega.{arith}
 use lib.Dec.{T, leb→le, ltb→lt}
 use borrow.Author.Tests.{eqb-true, eqb-false, not-true}
+use Rattle.cares.specs.Cares.{same, free, near, other, above, below, away}
 use borrow.Author.Needs.{needs}
-use Rattle.cares.specs.Cares.{same, free, near, other, above, below}
 use Rattle.cares.proofs.agrees.Statement.{statement}
 use Rattle.cares.proofs.agrees.Tie as tie
 
@@ -38,7 +38,16 @@ add-result-3 : tie.Need-add-result-3
 add-result-3 c = search needs
 
 returns-7 : tie.Need-returns-7
-returns-7 c = λ e. below (ltb→lt _ _ (subst T (sym e) tt))
+returns-7 c = λ e. below (c .if7 .taken) (ltb→lt _ _ (subst T (sym e) tt))
+
+cast-result : tie.Need-cast-result
+cast-result c = search needs
+
+add-result-4 : tie.Need-add-result-4
+add-result-4 c = search needs
+
+returns-8 : tie.Need-returns-8
+returns-8 c = λ e. away (c .if7 .left) (λ k. eqb-false (c .before .before .before .before .before .before .before .args .care) (2048 + c .before .before .before .before .before .before .before .args .y % 16) (not-true _ e) k)
 
 pub agrees-spec : {M : Type 1} → statement M
 agrees-spec =
@@ -53,4 +62,7 @@ agrees-spec =
     add-result-2
     returns-6
     add-result-3
-    returns-7)
+    returns-7
+    cast-result
+    add-result-4
+    returns-8)

@@ -1,9 +1,8 @@
 -- `certify::asks::unsought` meets its contract: one case for each return.
 -- Assumes nothing.
 use mathlib.Core.Path.{refl}
-use native.Mathlib.Nat.{le-refl}
 use native.Mathlib.Omega.{arith}
-use Rattle.certify.proofs.Asking.{unsought-all, unsought-above, unsought-below, unsought-not}
+use Rattle.certify.proofs.Places.{unsought-all, unsought-above, unsought-none, unsought-below, unsought-not}
 use Rattle.certify.proofs.asks.unsought.Statement.{statement}
 use Rattle.certify.proofs.asks.unsought.Tie as tie
 
@@ -29,16 +28,16 @@ sub-least : tie.Need-sub-least
 sub-least c = let h = c .before .if3 .taken in omega arith
 
 returns-3 : tie.Need-returns-3
-returns-3 c = unsought-below _ _ _ _ _ refl refl (c .before .before .if3 .taken) _ (omega arith) (let h = c .if4 .taken in omega arith)
+returns-3 c = unsought-none _ _ _ _ _ refl refl (c .before .before .if3 .taken) (c .if4 .taken)
 
 add-result-2 : tie.Need-add-result-2
 add-result-2 c = let h = c .if4 .left in omega arith
 
 returns-4 : tie.Need-returns-4
-returns-4 c = unsought-below _ _ _ _ _ refl refl (c .before .before .if3 .taken) _ (omega arith) (le-refl _)
+returns-4 c = unsought-below _ _ _ _ _ refl refl (c .before .before .if3 .taken) _ refl (let h = c .if4 .left in omega arith)
 
 returns-5 : tie.Need-returns-5
-returns-5 c = unsought-not _ _ _ _ _ refl refl (λ z. let h = c .before .before .if1 .left in omega arith) (λ z. let h = c .if3 .left in omega arith)
+returns-5 c = unsought-not _ _ _ _ _ refl refl (c .before .before .if1 .left) (c .if3 .left)
 
 pub unsought-spec : {M : Type 1} → statement M
 unsought-spec =

@@ -6,6 +6,7 @@ use native.Mathlib.Nat.{mod-lt}
 use native.Mathlib.Omega.{arith}
 use lib.Dec.{lit<}
 use lib.ListN.{length}
+use borrow.Author.Tests.{not-false}
 use borrow.Author.Needs.{needs}
 use Rattle.source.proofs.Arrays.{length-mapped}
 use Rattle.machine.proofs.Cases.{ruled-done}
@@ -18,7 +19,7 @@ use Rattle.certify.proofs.Numbers.{better-on, better-same}
 use Rattle.certify.proofs.Finding.{covers-self, covers-on, asks-less, found-empty, found-zero, found-one}
 use Rattle.certify.proofs.Filling.{fill-no-hole, fill-none, fill-unsought, fill-here, fill-fails, settles, alone-kept, alone-lost, hole-time, trying-filled, keeps-refused, keeps-done}
 use Rattle.certify.proofs.Missing.{untried, missed-none, missed-next, went-refused, went-hopeless, went-found, went-on}
-use Rattle.certify.proofs.Owning.{owns-none, owns-full, owns-crowded, owns-stuck, owns-goes}
+use Rattle.certify.proofs.Owning.{owns-none, owns-untried, owns-stuck, owns-goes}
 use Rattle.certify.proofs.Reaching.{reach-now, reach-end, reach-found, reach-all, straight-now, straight-found, further-by, further-own}
 use Prim.Native.Nat.{ℕ, _<_}
 use borrow.Fn.Kinds.{In}
@@ -44,7 +45,7 @@ use Rattle.certify.proofs.Sought.below.Reads as below-reads
 use Rattle.certify.proofs.Sought.certified.Reads as certified-reads
 use Rattle.certify.proofs.asks.asks.Reads as asks-reads
 use Rattle.certify.proofs.own_message.Reads as own-message-reads
-use Rattle.certify.proofs.reach.crowded.Reads as crowded-reads
+use Rattle.certify.proofs.reach.appends.Reads as appends-reads
 use Rattle.certify.proofs.reach.fill.Reads as fill-reads
 use Rattle.certify.proofs.reach.hopeless.Reads as hopeless-reads
 use Rattle.certify.proofs.reach.kept.Reads as kept-reads
@@ -120,10 +121,10 @@ abbrev keeps-claims : ℕ → keeps-lts.Claims
 keeps-claims t = (execute-reads.Asked, execute-reads.Learnt, certified-reads.Asked, certified-reads.Learnt, search-runs-below t, search-runs.Post, and-reads.Asked, and-reads.Learnt)
 
 abbrev own-reached-claims : ℕ → own-reached-lts.Claims
-own-reached-claims t = (crowded-reads.Asked, crowded-reads.Learnt, noting-reads.Asked, noting-reads.Learnt, own-store-reads.Asked, own-store-reads.Learnt, own-message-reads.Asked, own-message-reads.Learnt, append-reads.Asked, append-reads.Learnt, search-runs-below t, search-runs.Post, and-reads.Asked, and-reads.Learnt)
+own-reached-claims t = (noting-reads.Asked, noting-reads.Learnt, own-store-reads.Asked, own-store-reads.Learnt, own-message-reads.Asked, own-message-reads.Learnt, append-reads.Asked, append-reads.Learnt, search-runs-below t, search-runs.Post, and-reads.Asked, and-reads.Learnt)
 
 abbrev search-runs-claims : ℕ → search-runs-lts.Claims
-search-runs-claims t = (straight-reads.Asked, straight-reads.Learnt, kept-reads.Asked, kept-reads.Learnt, before-straight-reads.Asked, before-straight-reads.Learnt, instr-at-reads.Asked, instr-at-reads.Learnt, below-reads.Asked, below-reads.Learnt, asks-reads.Asked, asks-reads.Learnt, filled-below t, filled.Post, earliest-reads.Asked, earliest-reads.Learnt, try-at-below t, try-at.Post, following-reads.Asked, following-reads.Learnt, own-reached-below t, own-reached.Post)
+search-runs-claims t = (straight-reads.Asked, straight-reads.Learnt, kept-reads.Asked, kept-reads.Learnt, before-straight-reads.Asked, before-straight-reads.Learnt, instr-at-reads.Asked, instr-at-reads.Learnt, below-reads.Asked, below-reads.Learnt, appends-reads.Asked, appends-reads.Learnt, asks-reads.Asked, asks-reads.Learnt, filled-below t, filled.Post, earliest-reads.Asked, earliest-reads.Learnt, try-at-below t, try-at.Post, following-reads.Asked, following-reads.Learnt, own-reached-below t, own-reached.Post)
 
 abbrev try-at-claims : ℕ → try-at-lts.Claims
 try-at-claims t = (hopeless-reads.Asked, hopeless-reads.Learnt, execute-reads.Asked, execute-reads.Learnt, below-reads.Asked, below-reads.Learnt, kept-reads.Asked, kept-reads.Learnt, search-runs-below t, search-runs.Post, noted-reads.Asked, noted-reads.Learnt)
@@ -159,7 +160,7 @@ filled-lowered-requires : (t : ℕ) → filled-lts.Need-lowered-requires (filled
 filled-lowered-requires t c κs = search needs
 
 filled-returns-2 : (t : ℕ) → filled-lts.Need-returns-2 (filled-claims t) (filled-at t) filled.Post
-filled-returns-2 t c = (fill-unsought _ _ _ _ _ (c .before .before .before .before .before .before .before .before .before .before .before .args .q) _ _ _ _ (c .before .before .before .before .before .before .before .x .given .1) _ (c .before .before .before .before .before .own-message .ensures) (c .before .before .before .before .before .before .before .before .before .before .before .pre .1 .1 .0) (c .before .before .before .before .before .before .before .before .before .before .before .pre .1 .1 .1) _ (c .before .before .before .before .before .before .before .before .before .before .has .ensures) (c .before .before .before .before .before .before .before .before .before .if1 .left) _ (c .before .before .lowered .ensures) (c .if2 .taken), covers-self _)
+filled-returns-2 t c = (fill-unsought _ _ _ _ _ (c .before .before .before .before .before .before .before .before .before .before .before .args .q) _ _ _ _ (c .before .before .before .before .before .before .before .x .given .1) _ (c .before .before .before .before .before .own-message .ensures) (omega (arith, c .before .before .before .before .before .own-message .ok)) (c .before .before .before .before .before .before .before .before .before .before .before .pre .1 .1 .0) (c .before .before .before .before .before .before .before .before .before .before .before .pre .1 .1 .1) _ (c .before .before .before .before .before .before .before .before .before .before .has .ensures) (c .before .before .before .before .before .before .before .before .before .if1 .left) _ (c .before .before .lowered .ensures) (c .if2 .taken), covers-self _)
 
 filled-view-of-requires : (t : ℕ) → filled-lts.Need-view-of-requires (filled-claims t) (filled-at t) filled.Post
 filled-view-of-requires t c κs = search needs
@@ -171,19 +172,19 @@ filled-below-time-requires : (t : ℕ) → filled-lts.Need-below-time-requires (
 filled-below-time-requires t c κs = rw (c .before .before .before .before .before .before .before .before .before .own-message .ensures) (mod-lt _ (lit< tt))
 
 filled-returns-3 : (t : ℕ) → filled-lts.Need-returns-3 (filled-claims t) (filled-at t) filled.Post
-filled-returns-3 t c = (fill-here _ _ _ _ _ (c .before .before .before .before .before .before .before .before .before .before .before .before .before .before .before .before .before .args .q) _ _ _ _ (c .before .before .before .before .before .before .before .before .before .before .before .before .before .x .given .1) _ (c .before .before .before .before .before .before .before .before .before .before .before .own-message .ensures) (c .before .before .before .before .before .before .before .before .before .before .before .before .before .before .before .before .before .pre .1 .1 .0) (c .before .before .before .before .before .before .before .before .before .before .before .before .before .before .before .before .before .pre .1 .1 .1) _ (c .before .before .before .before .before .before .before .before .before .before .before .before .before .before .before .before .has .ensures) (c .before .before .before .before .before .before .before .before .before .before .before .before .before .before .before .if1 .left) _ (c .before .before .before .before .before .before .before .before .lowered .ensures) (c .before .before .before .before .before .before .if2 .left) _ refl (alone-kept (c .before .before .before .before .before .before .before .before .before .before .before .before .before .before .before .before .before .args .c) _ (c .before .before .before .before .before .before .before .before .before .before .before .before .before .before .before .before .before .args .m) _ _ _ _ _ _ (c .before .before .before .before .before .before .before .before .before .before .before .own-message .ensures) _ (rw (c .before .before .before .view-of .ensures, c .before .before .view-of2 .ensures) at (c .before .below-time .ensures)) (c .before .before .before .before .before .before .before .before .before .before .before .before .before .before .before .before .before .pre .1 .0 .ready .promises-in) (c .before .before .before .before .before .before .before .before .before .before .before .before .before .before .before .before .before .pre .1 .0 .ready .room) (places t (c .before .before .before .before .before .before .before .before .before .before .before .before .before .before .before .before .before)) _ (c .before .before .before .before .before .before .before .before .before .before .before .before .before .before .before .before .has .ensures) (c .before .before .before .before .before .before .before .before .before .before .before .before .before .before .before .if1 .left) (c .before .before .before .before .if3 .taken) (c .if4 .taken)), covers-self _)
+filled-returns-3 t c = (fill-here _ _ _ _ _ (c .before .before .before .before .before .before .before .before .before .before .before .before .before .before .before .before .before .args .q) _ _ _ _ (c .before .before .before .before .before .before .before .before .before .before .before .before .before .x .given .1) _ (c .before .before .before .before .before .before .before .before .before .before .before .own-message .ensures) (omega (arith, c .before .before .before .before .before .before .before .before .before .before .before .own-message .ok)) (c .before .before .before .before .before .before .before .before .before .before .before .before .before .before .before .before .before .pre .1 .1 .0) (c .before .before .before .before .before .before .before .before .before .before .before .before .before .before .before .before .before .pre .1 .1 .1) _ (c .before .before .before .before .before .before .before .before .before .before .before .before .before .before .before .before .has .ensures) (c .before .before .before .before .before .before .before .before .before .before .before .before .before .before .before .if1 .left) _ (c .before .before .before .before .before .before .before .before .lowered .ensures) (c .before .before .before .before .before .before .if2 .left) _ refl (alone-kept (c .before .before .before .before .before .before .before .before .before .before .before .before .before .before .before .before .before .args .c) _ (c .before .before .before .before .before .before .before .before .before .before .before .before .before .before .before .before .before .args .m) _ _ _ _ _ _ (c .before .before .before .before .before .before .before .before .before .before .before .own-message .ensures) _ (rw (c .before .before .before .view-of .ensures, c .before .before .view-of2 .ensures) at (c .before .below-time .ensures)) (c .before .before .before .before .before .before .before .before .before .before .before .before .before .before .before .before .before .pre .1 .0 .ready .promises-in) (c .before .before .before .before .before .before .before .before .before .before .before .before .before .before .before .before .before .pre .1 .0 .ready .room) (places t (c .before .before .before .before .before .before .before .before .before .before .before .before .before .before .before .before .before)) _ (c .before .before .before .before .before .before .before .before .before .before .before .before .before .before .before .before .has .ensures) (c .before .before .before .before .before .before .before .before .before .before .before .before .before .before .before .if1 .left) (c .before .before .before .before .if3 .taken) (c .if4 .taken)), covers-self _)
 
 filled-returns-4 : (t : ℕ) → filled-lts.Need-returns-4 (filled-claims t) (filled-at t) filled.Post
-filled-returns-4 t c = (fill-fails _ _ _ _ _ (c .before .before .before .before .before .before .before .before .before .before .before .before .before .before .before .before .before .args .q) _ _ _ _ (c .before .before .before .before .before .before .before .before .before .before .before .before .before .x .given .1) _ (c .before .before .before .before .before .before .before .before .before .before .before .own-message .ensures) (c .before .before .before .before .before .before .before .before .before .before .before .before .before .before .before .before .before .pre .1 .1 .0) (c .before .before .before .before .before .before .before .before .before .before .before .before .before .before .before .before .before .pre .1 .1 .1) _ (c .before .before .before .before .before .before .before .before .before .before .before .before .before .before .before .before .has .ensures) (c .before .before .before .before .before .before .before .before .before .before .before .before .before .before .before .if1 .left) _ (c .before .before .before .before .before .before .before .before .lowered .ensures) (c .before .before .before .before .before .before .if2 .left) _ refl _ (covers-self _) (alone-lost (c .before .before .before .before .before .before .before .before .before .before .before .before .before .before .before .before .before .args .c) _ (c .before .before .before .before .before .before .before .before .before .before .before .before .before .before .before .before .before .args .m) _ _ _ _ _ _ (c .before .before .before .before .before .before .before .before .before .before .before .own-message .ensures) _ (rw (c .before .before .before .view-of .ensures, c .before .before .view-of2 .ensures) at (c .before .below-time .ensures)) _ (settles (c .before .before .before .before .before .before .before .before .before .before .before .before .before .before .before .before .before .args .c) _ _ _ _ (c .before .before .before .before .before .before .before .before .before .before .before .before .before .before .before .before .before .args .q) _ _ _ _ (c .before .before .before .before .before .before .before .before .before .before .before .before .before .x .given .1) _ (c .before .before .before .before .before .before .before .before .before .before .before .own-message .ensures) (c .before .before .before .before .before .before .before .before .before .before .before .before .before .before .before .before .before .pre .1 .1 .0) (c .before .before .before .before .before .before .before .before .before .before .before .before .before .before .before .before .before .pre .1 .1 .1) _ (c .before .before .before .before .before .before .before .before .before .before .before .before .before .before .before .before .has .ensures) (c .before .before .before .before .before .before .before .before .before .before .before .before .before .before .before .if1 .left) _ (c .before .before .before .before .before .before .before .before .lowered .ensures) (c .before .before .before .before .before .before .if2 .left)) (c .if4 .left) _), covers-self _)
+filled-returns-4 t c = (fill-fails _ _ _ _ _ (c .before .before .before .before .before .before .before .before .before .before .before .before .before .before .before .before .before .args .q) _ _ _ _ (c .before .before .before .before .before .before .before .before .before .before .before .before .before .x .given .1) _ (c .before .before .before .before .before .before .before .before .before .before .before .own-message .ensures) (omega (arith, c .before .before .before .before .before .before .before .before .before .before .before .own-message .ok)) (c .before .before .before .before .before .before .before .before .before .before .before .before .before .before .before .before .before .pre .1 .1 .0) (c .before .before .before .before .before .before .before .before .before .before .before .before .before .before .before .before .before .pre .1 .1 .1) _ (c .before .before .before .before .before .before .before .before .before .before .before .before .before .before .before .before .has .ensures) (c .before .before .before .before .before .before .before .before .before .before .before .before .before .before .before .if1 .left) _ (c .before .before .before .before .before .before .before .before .lowered .ensures) (c .before .before .before .before .before .before .if2 .left) _ refl _ (covers-self _) (alone-lost (c .before .before .before .before .before .before .before .before .before .before .before .before .before .before .before .before .before .args .c) _ (c .before .before .before .before .before .before .before .before .before .before .before .before .before .before .before .before .before .args .m) _ _ _ _ _ _ (c .before .before .before .before .before .before .before .before .before .before .before .own-message .ensures) _ (rw (c .before .before .before .view-of .ensures, c .before .before .view-of2 .ensures) at (c .before .below-time .ensures)) _ (settles (c .before .before .before .before .before .before .before .before .before .before .before .before .before .before .before .before .before .args .c) _ _ _ _ (c .before .before .before .before .before .before .before .before .before .before .before .before .before .before .before .before .before .args .q) _ _ _ _ (c .before .before .before .before .before .before .before .before .before .before .before .before .before .x .given .1) _ (c .before .before .before .before .before .before .before .before .before .before .before .own-message .ensures) (omega (arith, c .before .before .before .before .before .before .before .before .before .before .before .own-message .ok)) (c .before .before .before .before .before .before .before .before .before .before .before .before .before .before .before .before .before .pre .1 .1 .0) (c .before .before .before .before .before .before .before .before .before .before .before .before .before .before .before .before .before .pre .1 .1 .1) _ (c .before .before .before .before .before .before .before .before .before .before .before .before .before .before .before .before .has .ensures) (c .before .before .before .before .before .before .before .before .before .before .before .before .before .before .before .if1 .left) _ (c .before .before .before .before .before .before .before .before .lowered .ensures) (c .before .before .before .before .before .before .if2 .left)) (c .if4 .left) _), covers-self _)
 
 filled-fill-requires : (t : ℕ) → filled-lts.Need-fill-requires (filled-claims t) (filled-at t) filled.Post
 filled-fill-requires t c κs = hole-time _ _ _ _ (c .before .before .before .before .before .before .before .before .before .before .before .before .before .pre .1 .0) _ _ (c .before .before .before .before .before .before .before .before .before .before .before .before .has .ensures) (c .before .before .before .before .before .before .before .before .before .before .before .if1 .left)
 
 filled-keeps-requires : (t : ℕ) → filled-lts.Need-keeps-requires (filled-claims t) (filled-at t) filled.Post
-filled-keeps-requires t c κs = (omega (arith, c .before .before .before .before .before .before .before .before .before .before .before .before .before .before .pre .0), (trying-filled _ _ (c .before .before .before .before .before .before .before .before .before .before .before .before .before .before .pre .1 .0) (c .fill .ensures) (c .before .before .before .before .before .before .before .before .before .before .x .given .1), settles (c .before .before .before .before .before .before .before .before .before .before .before .before .before .before .args .c) _ _ _ _ (c .before .before .before .before .before .before .before .before .before .before .before .before .before .before .args .q) _ _ _ _ (c .before .before .before .before .before .before .before .before .before .before .x .given .1) _ (c .before .before .before .before .before .before .before .before .own-message .ensures) (c .before .before .before .before .before .before .before .before .before .before .before .before .before .before .pre .1 .1 .0) (c .before .before .before .before .before .before .before .before .before .before .before .before .before .before .pre .1 .1 .1) _ (c .before .before .before .before .before .before .before .before .before .before .before .before .before .has .ensures) (c .before .before .before .before .before .before .before .before .before .before .before .before .if1 .left) _ (c .before .before .before .before .before .lowered .ensures) (c .before .before .before .if2 .left)))
+filled-keeps-requires t c κs = (omega (arith, c .before .before .before .before .before .before .before .before .before .before .before .before .before .before .pre .0), (trying-filled _ _ (c .before .before .before .before .before .before .before .before .before .before .before .before .before .before .pre .1 .0) (c .fill .ensures) (c .before .before .before .before .before .before .before .before .before .before .x .given .1), settles (c .before .before .before .before .before .before .before .before .before .before .before .before .before .before .args .c) _ _ _ _ (c .before .before .before .before .before .before .before .before .before .before .before .before .before .before .args .q) _ _ _ _ (c .before .before .before .before .before .before .before .before .before .before .x .given .1) _ (c .before .before .before .before .before .before .before .before .own-message .ensures) (omega (arith, c .before .before .before .before .before .before .before .before .own-message .ok)) (c .before .before .before .before .before .before .before .before .before .before .before .before .before .before .pre .1 .1 .0) (c .before .before .before .before .before .before .before .before .before .before .before .before .before .before .pre .1 .1 .1) _ (c .before .before .before .before .before .before .before .before .before .before .before .before .before .has .ensures) (c .before .before .before .before .before .before .before .before .before .before .before .before .if1 .left) _ (c .before .before .before .before .before .lowered .ensures) (c .before .before .before .if2 .left)))
 
 filled-returns-5 : (t : ℕ) → filled-lts.Need-returns-5 (filled-claims t) (filled-at t) filled.Post
-filled-returns-5 t c = (fill-here _ _ _ _ _ (c .before .before .before .before .before .before .before .before .before .before .before .before .before .before .before .before .before .args .q) _ _ _ _ (c .before .before .before .before .before .before .before .before .before .before .before .before .before .x .given .1) _ (c .before .before .before .before .before .before .before .before .before .before .before .own-message .ensures) (c .before .before .before .before .before .before .before .before .before .before .before .before .before .before .before .before .before .pre .1 .1 .0) (c .before .before .before .before .before .before .before .before .before .before .before .before .before .before .before .before .before .pre .1 .1 .1) _ (c .before .before .before .before .before .before .before .before .before .before .before .before .before .before .before .before .has .ensures) (c .before .before .before .before .before .before .before .before .before .before .before .before .before .before .before .if1 .left) _ (c .before .before .before .before .before .before .before .before .lowered .ensures) (c .before .before .before .before .before .before .if2 .left) _ (c .before .before .before .fill .ensures) (found-zero _ _ _ (c .before .before .keeps .ensures .0) (c .if5 .taken)), covers-self _)
+filled-returns-5 t c = (fill-here _ _ _ _ _ (c .before .before .before .before .before .before .before .before .before .before .before .before .before .before .before .before .before .args .q) _ _ _ _ (c .before .before .before .before .before .before .before .before .before .before .before .before .before .x .given .1) _ (c .before .before .before .before .before .before .before .before .before .before .before .own-message .ensures) (omega (arith, c .before .before .before .before .before .before .before .before .before .before .before .own-message .ok)) (c .before .before .before .before .before .before .before .before .before .before .before .before .before .before .before .before .before .pre .1 .1 .0) (c .before .before .before .before .before .before .before .before .before .before .before .before .before .before .before .before .before .pre .1 .1 .1) _ (c .before .before .before .before .before .before .before .before .before .before .before .before .before .before .before .before .has .ensures) (c .before .before .before .before .before .before .before .before .before .before .before .before .before .before .before .if1 .left) _ (c .before .before .before .before .before .before .before .before .lowered .ensures) (c .before .before .before .before .before .before .if2 .left) _ (c .before .before .before .fill .ensures) (found-zero _ _ _ (c .before .before .keeps .ensures .0) (c .if5 .taken)), covers-self _)
 
 filled-enum-told : (t : ℕ) → filled-lts.Need-enum-told (filled-claims t) (filled-at t) filled.Post
 filled-enum-told t c = search needs
@@ -198,7 +199,7 @@ filled-enum-told-4 : (t : ℕ) → filled-lts.Need-enum-told-4 (filled-claims t)
 filled-enum-told-4 t c = search needs
 
 filled-returns-6 : (t : ℕ) → filled-lts.Need-returns-6 (filled-claims t) (filled-at t) filled.Post
-filled-returns-6 t c = (fill-fails _ _ _ _ _ (c .before .before .before .before .before .before .before .before .before .before .before .before .before .before .before .before .before .before .args .q) _ _ _ _ (c .before .before .before .before .before .before .before .before .before .before .before .before .before .before .x .given .1) _ (c .before .before .before .before .before .before .before .before .before .before .before .before .own-message .ensures) (c .before .before .before .before .before .before .before .before .before .before .before .before .before .before .before .before .before .before .pre .1 .1 .0) (c .before .before .before .before .before .before .before .before .before .before .before .before .before .before .before .before .before .before .pre .1 .1 .1) _ (c .before .before .before .before .before .before .before .before .before .before .before .before .before .before .before .before .before .has .ensures) (c .before .before .before .before .before .before .before .before .before .before .before .before .before .before .before .before .if1 .left) _ (c .before .before .before .before .before .before .before .before .before .lowered .ensures) (c .before .before .before .before .before .before .before .if2 .left) _ (c .before .before .before .before .fill .ensures) _ (c .before .before .before .keeps .ensures .1) (found-one _ _ _ (c .before .before .before .keeps .ensures .0) (c .before .if5 .left)), c .before .before .before .keeps .ensures .1)
+filled-returns-6 t c = (fill-fails _ _ _ _ _ (c .before .before .before .before .before .before .before .before .before .before .before .before .before .before .before .before .before .before .args .q) _ _ _ _ (c .before .before .before .before .before .before .before .before .before .before .before .before .before .before .x .given .1) _ (c .before .before .before .before .before .before .before .before .before .before .before .before .own-message .ensures) (omega (arith, c .before .before .before .before .before .before .before .before .before .before .before .before .own-message .ok)) (c .before .before .before .before .before .before .before .before .before .before .before .before .before .before .before .before .before .before .pre .1 .1 .0) (c .before .before .before .before .before .before .before .before .before .before .before .before .before .before .before .before .before .before .pre .1 .1 .1) _ (c .before .before .before .before .before .before .before .before .before .before .before .before .before .before .before .before .before .has .ensures) (c .before .before .before .before .before .before .before .before .before .before .before .before .before .before .before .before .if1 .left) _ (c .before .before .before .before .before .before .before .before .before .lowered .ensures) (c .before .before .before .before .before .before .before .if2 .left) _ (c .before .before .before .before .fill .ensures) _ (c .before .before .before .keeps .ensures .1) (found-one _ _ _ (c .before .before .before .keeps .ensures .0) (c .before .if5 .left)), c .before .before .before .keeps .ensures .1)
 
 filled-returns-7 : (t : ℕ) → filled-lts.Need-returns-7 (filled-claims t) (filled-at t) filled.Post
 filled-returns-7 t c = (fill-none _ _ _ _ _ (c .before .before .before .before .args .q) _ (λ y. rw (c .enum-told .given .1)), covers-self _)
@@ -239,26 +240,20 @@ keeps-returns-2 t c = (keeps-done _ _ _ _ _ _ _ (c .before .before .before .befo
 own-reached-returns : (t : ℕ) → own-reached-lts.Need-returns (own-reached-claims t) (own-reached-at t) own-reached.Post
 own-reached-returns t c = (found-empty _ _ _ _ _ (c .if1 .taken), covers-self _)
 
+own-reached-returns-2 : (t : ℕ) → own-reached-lts.Need-returns-2 (own-reached-claims t) (own-reached-at t) own-reached.Post
+own-reached-returns-2 t c = (owns-untried _ _ _ _ _ _ _ _ (c .before .before .before .pre .1 .1) (c .if2 .taken), covers-self _)
+
 own-reached-enum-known-x : (t : ℕ) → own-reached-lts.Need-enum-known-x (own-reached-claims t) (own-reached-at t) own-reached.Post
 own-reached-enum-known-x t c = search needs
-
-own-reached-returns-2 : (t : ℕ) → own-reached-lts.Need-returns-2 (own-reached-claims t) (own-reached-at t) own-reached.Post
-own-reached-returns-2 t c = (owns-full _ _ _ _ _ _ _ (c .if2 .taken), covers-self _)
-
-own-reached-add-crowded : (t : ℕ) → own-reached-lts.Need-add-crowded (own-reached-claims t) (own-reached-at t) own-reached.Post
-own-reached-add-crowded t c = let w = c .before .before .before .before .before .before .before .before .pre .1 .0 in let h = reach-byte _ _ _ _ w in let q = rw (c .before .before .before .before .x .given .1) at h in omega arith
-
-own-reached-crowded-requires : (t : ℕ) → own-reached-lts.Need-crowded-requires (own-reached-claims t) (own-reached-at t) own-reached.Post
-own-reached-crowded-requires t c κs = c .before .before .before .before .before .before .before .before .pre .1 .0 .ready .code-ok .short
-
-own-reached-returns-3 : (t : ℕ) → own-reached-lts.Need-returns-3 (own-reached-claims t) (own-reached-at t) own-reached.Post
-own-reached-returns-3 t c = (owns-crowded _ _ _ _ _ _ _ _ refl _ (c .before .crowded .ensures) (c .if3 .taken), covers-self _)
 
 own-reached-noting-requires : (t : ℕ) → own-reached-lts.Need-noting-requires (own-reached-claims t) (own-reached-at t) own-reached.Post
 own-reached-noting-requires t c κs = search needs
 
+own-reached-noting-requires-2 : (t : ℕ) → own-reached-lts.Need-noting-requires-2 (own-reached-claims t) (own-reached-at t) own-reached.Post
+own-reached-noting-requires-2 t c κs = search needs
+
 own-reached-own-store-requires : (t : ℕ) → own-reached-lts.Need-own-store-requires (own-reached-claims t) (own-reached-at t) own-reached.Post
-own-reached-own-store-requires t c κs = let w = c .before .before .before .before .before .before .before .before .before .before .before .pre .1 .0 in let h = reach-byte _ _ _ _ w in let l = w .ready .code-ok .short in let q = rw (c .before .before .before .before .before .before .before .x .given .1) at h in (omega arith, (c .before .before .before .before .if2 .left, w .ready .promises-in))
+own-reached-own-store-requires t c κs = let w = c .before .before .before .before .before .before .before .before .pre .1 .0 in let h = reach-byte _ _ _ _ w in let l = w .ready .code-ok .short in let q = rw (c .before .before .before .x .given .1) at h in (omega arith, (c .before .before .before .before .before .before .before .before .pre .1 .1 .room (not-false _ (c .before .before .before .before .before .if2 .left)), w .ready .promises-in))
 
 own-reached-enum-told : (t : ℕ) → own-reached-lts.Need-enum-told (own-reached-claims t) (own-reached-at t) own-reached.Post
 own-reached-enum-told t c = search needs
@@ -266,17 +261,17 @@ own-reached-enum-told t c = search needs
 own-reached-enum-told-2 : (t : ℕ) → own-reached-lts.Need-enum-told-2 (own-reached-claims t) (own-reached-at t) own-reached.Post
 own-reached-enum-told-2 t c = search needs
 
-own-reached-returns-4 : (t : ℕ) → own-reached-lts.Need-returns-4 (own-reached-claims t) (own-reached-at t) own-reached.Post
-own-reached-returns-4 t c = (owns-stuck _ _ _ _ _ _ _ _ _ _ (c .before .before .before .before .before .before .before .before .before .before .x .given .1) (c .before .before .before .before .before .before .before .if2 .left) _ (c .before .before .own-store .ensures) (c .before .before .before .before .before .before .before .before .before .before .before .before .before .before .pre .1 .1) _ (c .before .before .before .noting .ensures) _ (c .enum-told2 .given .1), record { agreeing = λ v w a. c .before .before .before .noting .ensures v w a .0 })
+own-reached-returns-3 : (t : ℕ) → own-reached-lts.Need-returns-3 (own-reached-claims t) (own-reached-at t) own-reached.Post
+own-reached-returns-3 t c = (owns-stuck _ _ _ _ _ _ (c .before .before .before .before .before .before .before .before .before .before .before .args .k) _ _ _ (c .before .before .before .before .before .before .x .given .1) (c .before .before .before .before .before .before .before .before .before .before .before .pre .1 .1 .room (not-false _ (c .before .before .before .before .before .before .before .before .if2 .left))) _ (c .before .before .own-store .ensures) _ (λ v w g. c .before .before .before .before .noting .ensures v w (c .before .before .before .noting2 .ensures v w g .0) .1) (λ v w g. c .before .before .before .noting2 .ensures v w g .1) _ (c .enum-told2 .given .1), record { agreeing = λ v w g. c .before .before .before .before .noting .ensures v w (c .before .before .before .noting2 .ensures v w g .0) .0 })
 
 own-reached-own-message-requires : (t : ℕ) → own-reached-lts.Need-own-message-requires (own-reached-claims t) (own-reached-at t) own-reached.Post
 own-reached-own-message-requires t c κs = search needs
 
 own-reached-append-requires : (t : ℕ) → own-reached-lts.Need-append-requires (own-reached-claims t) (own-reached-at t) own-reached.Post
-own-reached-append-requires t c κs = c .before .before .before .before .before .before .before .before .if2 .left
+own-reached-append-requires t c κs = c .before .before .before .before .before .before .before .before .before .before .before .before .pre .1 .1 .room (not-false _ (c .before .before .before .before .before .before .before .before .before .if2 .left))
 
 own-reached-search-runs-requires : (t : ℕ) → own-reached-lts.Need-search-runs-requires (own-reached-claims t) (own-reached-at t) own-reached.Post
-own-reached-search-runs-requires t c κs = let f = further-own _ _ _ _ (c .before .before .before .before .before .before .before .before .before .before .before .before .before .before .before .before .pre .1 .0) _ _ _ (c .before .before .before .before .before .before .before .before .before .before .before .before .x .given .1) _ _ (c .before .before .before .before .own-store .ensures) (c .before .before .enum-told .given .1) in (omega (arith, c .before .before .before .before .before .before .before .before .before .before .before .before .before .before .before .before .pre .0), rw (c .append .ensures, c .before .own-message .ensures) (ready-own _ _ _ _ _ (c .before .before .before .before .before .before .before .before .before .before .before .before .before .before .before .before .pre .1 .0 .ready) (c .before .before .before .before .before .before .before .before .before .if2 .left) (ruled-done _ _ _ (c .before .before .before .before .own-store .ensures) (c .before .before .enum-told .given .1))))
+own-reached-search-runs-requires t c κs = let f = further-own _ _ _ _ (c .before .before .before .before .before .before .before .before .before .before .before .before .before .pre .1 .0) _ _ _ (c .before .before .before .before .before .before .before .before .x .given .1) _ _ (c .before .before .before .before .own-store .ensures) (c .before .before .enum-told .given .1) in (omega (arith, c .before .before .before .before .before .before .before .before .before .before .before .before .before .pre .0), rw (c .append .ensures, c .before .own-message .ensures) (ready-own _ _ _ _ _ (c .before .before .before .before .before .before .before .before .before .before .before .before .before .pre .1 .0 .ready) (c .before .before .before .before .before .before .before .before .before .before .before .before .before .pre .1 .1 .room (not-false _ (c .before .before .before .before .before .before .before .before .before .before .if2 .left))) (ruled-done _ _ _ (c .before .before .before .before .own-store .ensures) (c .before .before .enum-told .given .1))))
 
 own-reached-and-requires : (t : ℕ) → own-reached-lts.Need-and-requires (own-reached-claims t) (own-reached-at t) own-reached.Post
 own-reached-and-requires t c κs = search needs
@@ -293,26 +288,26 @@ own-reached-enum-told-5 t c = search needs
 own-reached-enum-told-6 : (t : ℕ) → own-reached-lts.Need-enum-told-6 (own-reached-claims t) (own-reached-at t) own-reached.Post
 own-reached-enum-told-6 t c = search needs
 
+own-reached-returns-4 : (t : ℕ) → own-reached-lts.Need-returns-4 (own-reached-claims t) (own-reached-at t) own-reached.Post
+own-reached-returns-4 t c = (owns-goes _ _ _ _ _ _ (c .before .before .before .before .before .before .before .before .before .before .before .before .before .before .before .before .args .k) _ _ _ (c .before .before .before .before .before .before .before .before .before .before .before .x .given .1) (c .before .before .before .before .before .before .before .before .before .before .before .before .before .before .before .before .pre .1 .1 .room (not-false _ (c .before .before .before .before .before .before .before .before .before .before .before .before .before .if2 .left))) _ (c .before .before .before .before .before .before .before .own-store .ensures) _ (λ v w g. c .before .before .before .before .before .before .before .before .before .noting .ensures v w (c .before .before .before .before .before .before .before .before .noting2 .ensures v w g .0) .1) (λ v w g. c .before .before .before .before .before .before .before .before .noting2 .ensures v w g .1) _ (rw (c .before .before .before .append .ensures, c .before .before .before .before .own-message .ensures)) (c .before .before .before .before .before .enum-told .given .1) _ (c .before .before .search-runs .ensures) _ (c .and .ensures .0) (c .and .ensures .1), covers-on (c .and .ensures .1) (record { agreeing = λ v w g. c .before .before .before .before .before .before .before .before .before .noting .ensures v w (c .before .before .before .before .before .before .before .before .noting2 .ensures v w g .0) .0 }))
+
 own-reached-returns-5 : (t : ℕ) → own-reached-lts.Need-returns-5 (own-reached-claims t) (own-reached-at t) own-reached.Post
-own-reached-returns-5 t c = (owns-goes _ _ _ _ _ _ _ _ _ _ (c .before .before .before .before .before .before .before .before .before .before .before .before .before .before .before .x .given .1) (c .before .before .before .before .before .before .before .before .before .before .before .before .if2 .left) _ (c .before .before .before .before .before .before .before .own-store .ensures) (c .before .before .before .before .before .before .before .before .before .before .before .before .before .before .before .before .before .before .before .pre .1 .1) _ (c .before .before .before .before .before .before .before .before .noting .ensures) _ (rw (c .before .before .before .append .ensures, c .before .before .before .before .own-message .ensures)) (c .before .before .before .before .before .enum-told .given .1) _ (c .before .before .search-runs .ensures) _ (c .and .ensures .0) (c .and .ensures .1), covers-on (c .and .ensures .1) (record { agreeing = λ v w a. c .before .before .before .before .before .before .before .before .noting .ensures v w a .0 }))
+own-reached-returns-5 t c = (owns-none _ _ _ _ _ _ _ (λ y. rw (c .enum-told3 .given .1)), covers-self _)
 
 own-reached-returns-6 : (t : ℕ) → own-reached-lts.Need-returns-6 (own-reached-claims t) (own-reached-at t) own-reached.Post
-own-reached-returns-6 t c = (owns-none _ _ _ _ _ _ _ (λ y. rw (c .enum-told3 .given .1)), covers-self _)
+own-reached-returns-6 t c = (owns-none _ _ _ _ _ _ _ (λ y. rw (c .enum-told4 .given .1)), covers-self _)
 
 own-reached-returns-7 : (t : ℕ) → own-reached-lts.Need-returns-7 (own-reached-claims t) (own-reached-at t) own-reached.Post
-own-reached-returns-7 t c = (owns-none _ _ _ _ _ _ _ (λ y. rw (c .enum-told4 .given .1)), covers-self _)
+own-reached-returns-7 t c = (owns-none _ _ _ _ _ _ _ (λ y. rw (c .enum-told5 .given .1)), covers-self _)
 
 own-reached-returns-8 : (t : ℕ) → own-reached-lts.Need-returns-8 (own-reached-claims t) (own-reached-at t) own-reached.Post
-own-reached-returns-8 t c = (owns-none _ _ _ _ _ _ _ (λ y. rw (c .enum-told5 .given .1)), covers-self _)
-
-own-reached-returns-9 : (t : ℕ) → own-reached-lts.Need-returns-9 (own-reached-claims t) (own-reached-at t) own-reached.Post
-own-reached-returns-9 t c = (owns-none _ _ _ _ _ _ _ (λ y. rw (c .enum-told6 .given .1)), covers-self _)
+own-reached-returns-8 t c = (owns-none _ _ _ _ _ _ _ (λ y. rw (c .enum-told6 .given .1)), covers-self _)
 
 abbrev search-runs-Inv-loop : search-runs-lts.InvT-loop
-search-runs-Inv-loop c i m s q nothing y now x t₀ r₀ t r = Missed c i m y x q r t × (Better (q .from) (r₀ .best) (Meets c i m y (q .hole)) (r .best) × (Covers (r .cares .of) (r₀ .cares .of) × (t ≤ 17)))
+search-runs-Inv-loop c i m s q nothing y now x appending t₀ r₀ t r = Missed c i m y x q r t × (Better (q .from) (r₀ .best) (Meets c i m y (q .hole)) (r .best) × (Covers (r .cares .of) (r₀ .cares .of) × (t ≤ 17)))
 
 abbrev search-runs-μ-loop : search-runs-lts.MeasureT-loop
-search-runs-μ-loop c i m s q nothing y now x t₀ r₀ t r = 17 - t
+search-runs-μ-loop c i m s q nothing y now x appending t₀ r₀ t r = 17 - t
 
 search-runs-straight-requires : (t : ℕ) → search-runs-lts.Need-straight-requires (search-runs-claims t) (search-runs-at t) search-runs.Post search-runs-Inv-loop search-runs-μ-loop
 search-runs-straight-requires t c κs = c .pre .1 .code-ok
@@ -335,26 +330,29 @@ search-runs-instr-at-requires t c κs = let h = c .before .before .before .befor
 search-runs-below-requires : (t : ℕ) → search-runs-lts.Need-below-requires (search-runs-claims t) (search-runs-at t) search-runs.Post search-runs-Inv-loop search-runs-μ-loop
 search-runs-below-requires t c κs = search needs
 
+search-runs-appends-requires : (t : ℕ) → search-runs-lts.Need-appends-requires (search-runs-claims t) (search-runs-at t) search-runs.Post search-runs-Inv-loop search-runs-μ-loop
+search-runs-appends-requires t c κs = let h = c .before .before .before .before .before .before .before .before .before .pre .1 .code-ok .short in let l = c .before .before .if2 .left in (h, omega arith)
+
 search-runs-asks-requires : (t : ℕ) → search-runs-lts.Need-asks-requires (search-runs-claims t) (search-runs-at t) search-runs.Post search-runs-Inv-loop search-runs-μ-loop
-search-runs-asks-requires t c κs = c .before .before .before .before .before .before .before .before .before .pre .1 .room
+search-runs-asks-requires t c κs = c .before .before .before .before .before .before .before .before .before .before .pre .1 .room
 
 search-runs-filled-requires : (t : ℕ) → search-runs-lts.Need-filled-requires (search-runs-claims t) (search-runs-at t) search-runs.Post search-runs-Inv-loop search-runs-μ-loop
-search-runs-filled-requires t c κs = let f = leads-further (c .before .before .before .before .before .before .before .before .before .straight .ensures .leads) in (omega (arith, c .before .before .before .before .before .before .before .before .before .before .pre .0), (record { ready = leads-ready (c .before .before .before .before .before .before .before .before .before .straight .ensures .leads) (c .before .before .before .before .before .before .before .before .before .before .pre .1); is-next = c .before .before .instr-at .ensures }, c .asks .ensures))
+search-runs-filled-requires t c κs = let f = leads-further (c .before .before .before .before .before .before .before .before .before .before .straight .ensures .leads) in (omega (arith, c .before .before .before .before .before .before .before .before .before .before .before .pre .0), (record { ready = leads-ready (c .before .before .before .before .before .before .before .before .before .before .straight .ensures .leads) (c .before .before .before .before .before .before .before .before .before .before .before .pre .1); is-next = c .before .before .before .instr-at .ensures }, c .asks .ensures))
 
 search-runs-earliest-requires : (t : ℕ) → search-runs-lts.Need-earliest-requires (search-runs-claims t) (search-runs-at t) search-runs.Post search-runs-Inv-loop search-runs-μ-loop
-search-runs-earliest-requires t c κs = c .before .before .before .before .before .before .before .before .before .before .before .pre .1 .room
+search-runs-earliest-requires t c κs = c .before .before .before .before .before .before .before .before .before .before .before .before .pre .1 .room
 
 search-runs-loop-holds : (t : ℕ) → search-runs-lts.Need-loop-holds (search-runs-claims t) (search-runs-at t) search-runs.Post search-runs-Inv-loop search-runs-μ-loop
-search-runs-loop-holds t c = (missed-none _ _ _ _ _ _ _ _ _ _ (c .before .before .before .before .before .before .before .before .before .before .before .before .straight .ensures .halts _ (c .before .before .before .before .before .instr-at .ensures)) (asks-less (c .before .before .filled .ensures .1) (c .before .before .before .asks .ensures .0)) untried (c .before .earliest .ensures), (better-same _ _ _, (covers-self _, c .before .earliest .ensures .within)))
+search-runs-loop-holds t c = (missed-none _ _ _ _ _ _ _ _ _ _ (c .before .before .before .before .before .before .before .before .before .before .before .before .before .straight .ensures .halts _ (c .before .before .before .before .before .before .instr-at .ensures)) _ (asks-less (c .before .before .filled .ensures .1) (c .before .before .before .asks .ensures .0)) untried (c .before .earliest .ensures), (better-same _ _ _, (covers-self _, c .before .earliest .ensures .within)))
 
 search-runs-try-at-requires : (t : ℕ) → search-runs-lts.Need-try-at-requires (search-runs-claims t) (search-runs-at t) search-runs.Post search-runs-Inv-loop search-runs-μ-loop
-search-runs-try-at-requires t c κs = let f = leads-further (c .before .before .before .before .before .before .before .before .before .before .before .before .before .before .straight .ensures .leads) in (omega (arith, c .before .before .before .before .before .before .before .before .before .before .before .before .before .before .before .pre .0), (record { ready = leads-ready (c .before .before .before .before .before .before .before .before .before .before .before .before .before .before .straight .ensures .leads) (c .before .before .before .before .before .before .before .before .before .before .before .before .before .before .before .pre .1); is-next = c .before .before .before .before .before .before .before .instr-at .ensures }, (c .loop-test .taken, c .before .loop .inv .0)))
+search-runs-try-at-requires t c κs = let f = leads-further (c .before .before .before .before .before .before .before .before .before .before .before .before .before .before .before .straight .ensures .leads) in (omega (arith, c .before .before .before .before .before .before .before .before .before .before .before .before .before .before .before .before .pre .0), (record { ready = leads-ready (c .before .before .before .before .before .before .before .before .before .before .before .before .before .before .before .straight .ensures .leads) (c .before .before .before .before .before .before .before .before .before .before .before .before .before .before .before .before .pre .1); is-next = c .before .before .before .before .before .before .before .before .instr-at .ensures }, (c .loop-test .taken, c .before .loop .inv .0)))
 
 search-runs-returns-3 : (t : ℕ) → search-runs-lts.Need-returns-3 (search-runs-claims t) (search-runs-at t) search-runs.Post search-runs-Inv-loop search-runs-μ-loop
-search-runs-returns-3 t c = straight-now _ _ _ _ _ (c .before .before .before .before .before .before .before .before .before .before .before .before .before .before .before .before .before .before .straight .ensures) _ _ _ _ (reach-found _ _ _ _ _ _ (c .before .before .before .before .before .before .before .before .before .before .before .before .before .before .before .before .before .kept .ensures) _ (c .before .before .before .before .before .before .before .before .before .before .before .instr-at .ensures) _ (rw (c .before .before .before .before .before .before .before .before .before .before .below .ensures) at (c .before .before .before .before .before .before .before .before .filled .ensures .0)) _ (better-on (c .before .before .before .before .before .loop .inv .1 .0) (c .before .before .before .try-at .ensures .better))) (c .if3 .taken) _
+search-runs-returns-3 t c = straight-now _ _ _ _ _ (c .before .before .before .before .before .before .before .before .before .before .before .before .before .before .before .before .before .before .before .straight .ensures) _ _ _ _ (reach-found _ _ _ _ _ _ (c .before .before .before .before .before .before .before .before .before .before .before .before .before .before .before .before .before .before .kept .ensures) _ (c .before .before .before .before .before .before .before .before .before .before .before .before .instr-at .ensures) _ (rw (c .before .before .before .before .before .before .before .before .before .before .before .below .ensures) at (c .before .before .before .before .before .before .before .before .filled .ensures .0)) _ (better-on (c .before .before .before .before .before .loop .inv .1 .0) (c .before .before .before .try-at .ensures .better))) (c .if3 .taken) _
 
 search-runs-following-requires : (t : ℕ) → search-runs-lts.Need-following-requires (search-runs-claims t) (search-runs-at t) search-runs.Post search-runs-Inv-loop search-runs-μ-loop
-search-runs-following-requires t c κs = (c .before .before .before .before .before .before .before .before .before .before .before .before .before .before .before .before .before .before .before .pre .1 .room, c .before .before .before .before .loop-test .taken)
+search-runs-following-requires t c κs = (c .before .before .before .before .before .before .before .before .before .before .before .before .before .before .before .before .before .before .before .before .pre .1 .room, c .before .before .before .before .loop-test .taken)
 
 search-runs-loop-less : (t : ℕ) → search-runs-lts.Need-loop-less (search-runs-claims t) (search-runs-at t) search-runs.Post search-runs-Inv-loop search-runs-μ-loop
 search-runs-loop-less t c = let l = c .before .before .before .before .before .loop-test .taken in let k = c .following .ensures .later in omega arith
@@ -366,13 +364,13 @@ search-runs-below-requires-2 : (t : ℕ) → search-runs-lts.Need-below-requires
 search-runs-below-requires-2 t c κs = search needs
 
 search-runs-own-reached-requires : (t : ℕ) → search-runs-lts.Need-own-reached-requires (search-runs-claims t) (search-runs-at t) search-runs.Post search-runs-Inv-loop search-runs-μ-loop
-search-runs-own-reached-requires t c κs = let f = leads-further (c .before .before .before .before .before .before .before .before .before .before .before .before .before .before .before .straight .ensures .leads) in (omega (arith, c .before .before .before .before .before .before .before .before .before .before .before .before .before .before .before .before .pre .0), (record { ready = leads-ready (c .before .before .before .before .before .before .before .before .before .before .before .before .before .before .before .straight .ensures .leads) (c .before .before .before .before .before .before .before .before .before .before .before .before .before .before .before .before .pre .1); is-next = c .before .before .before .before .before .before .before .before .instr-at .ensures }, c .before .before .loop .inv .0 .asked))
+search-runs-own-reached-requires t c κs = let f = leads-further (c .before .before .before .before .before .before .before .before .before .before .before .before .before .before .before .before .straight .ensures .leads) in (omega (arith, c .before .before .before .before .before .before .before .before .before .before .before .before .before .before .before .before .before .pre .0), (record { ready = leads-ready (c .before .before .before .before .before .before .before .before .before .before .before .before .before .before .before .before .straight .ensures .leads) (c .before .before .before .before .before .before .before .before .before .before .before .before .before .before .before .before .before .pre .1); is-next = c .before .before .before .before .before .before .before .before .before .instr-at .ensures }, c .before .before .before .before .before .before .before .appends .ensures))
 
 search-runs-before-straight-requires-2 : (t : ℕ) → search-runs-lts.Need-before-straight-requires-2 (search-runs-claims t) (search-runs-at t) search-runs.Post search-runs-Inv-loop search-runs-μ-loop
-search-runs-before-straight-requires-2 t c κs = c .before .before .before .before .before .before .before .before .before .before .before .before .before .before .before .before .before .before .pre .1 .code-ok
+search-runs-before-straight-requires-2 t c κs = c .before .before .before .before .before .before .before .before .before .before .before .before .before .before .before .before .before .before .before .pre .1 .code-ok
 
 search-runs-returns-4 : (t : ℕ) → search-runs-lts.Need-returns-4 (search-runs-claims t) (search-runs-at t) search-runs.Post search-runs-Inv-loop search-runs-μ-loop
-search-runs-returns-4 t c = straight-found _ _ _ _ _ (c .before .before .before .before .before .before .before .before .before .before .before .before .before .before .before .before .before .before .straight .ensures) _ _ _ _ (reach-all _ _ _ _ _ _ (c .before .before .before .before .before .before .before .before .before .before .before .before .before .before .before .before .before .kept .ensures) _ (c .before .before .before .before .before .before .before .before .before .before .before .instr-at .ensures) _ (rw (c .before .before .before .before .before .before .before .before .before .before .below .ensures) at (c .before .before .before .before .before .before .before .before .filled .ensures .0)) (c .before .before .before .before .before .before .before .before .before .before .before .before .before .before .before .before .before .before .before .pre .1 .room) _ _ (c .before .before .before .before .before .loop .inv .1 .0) (c .before .before .before .before .before .loop .inv .1 .1 .0) (c .before .before .before .before .before .loop .inv .0) (c .before .before .before .before .loop-test .left) _ (rw (c .before .before .before .below2 .ensures) at (c .before .before .own-reached .ensures .0)) (c .before .before .own-reached .ensures .1)) _ (c .before-straight2 .ensures)
+search-runs-returns-4 t c = straight-found _ _ _ _ _ (c .before .before .before .before .before .before .before .before .before .before .before .before .before .before .before .before .before .before .before .straight .ensures) _ _ _ _ (reach-all _ _ _ _ _ _ (c .before .before .before .before .before .before .before .before .before .before .before .before .before .before .before .before .before .before .kept .ensures) _ (c .before .before .before .before .before .before .before .before .before .before .before .before .instr-at .ensures) _ (rw (c .before .before .before .before .before .before .before .before .before .before .before .below .ensures) at (c .before .before .before .before .before .before .before .before .filled .ensures .0)) (c .before .before .before .before .before .before .before .before .before .before .before .before .before .before .before .before .before .before .before .before .pre .1 .room) _ _ (c .before .before .before .before .before .loop .inv .1 .0) (c .before .before .before .before .before .loop .inv .1 .1 .0) (c .before .before .before .before .before .loop .inv .0) (c .before .before .before .before .loop-test .left) _ (rw (c .before .before .before .below2 .ensures) at (c .before .before .own-reached .ensures .0)) (c .before .before .own-reached .ensures .1)) _ (c .before-straight2 .ensures)
 
 try-at-hopeless-requires : (t : ℕ) → try-at-lts.Need-hopeless-requires (try-at-claims t) (try-at-at t) try-at.Post
 try-at-hopeless-requires t c κs = let w = c .pre .1 .0 in (w .ready .code-ok .short, (w .ready .room, c .pre .1 .1 .0))
@@ -457,16 +455,14 @@ pub +filled+keeps+own-reached+search-runs+try-at-spec : {M : Type 1} → stateme
     (λ t. own-reached-lts.spec (own-reached-claims t) (own-reached-at t)
     own-reached.Post
     (own-reached-returns t)
-    (own-reached-enum-known-x t)
     (own-reached-returns-2 t)
-    (own-reached-add-crowded t)
-    (own-reached-crowded-requires t)
-    (own-reached-returns-3 t)
+    (own-reached-enum-known-x t)
     (own-reached-noting-requires t)
+    (own-reached-noting-requires-2 t)
     (own-reached-own-store-requires t)
     (own-reached-enum-told t)
     (own-reached-enum-told-2 t)
-    (own-reached-returns-4 t)
+    (own-reached-returns-3 t)
     (own-reached-own-message-requires t)
     (own-reached-append-requires t)
     (own-reached-search-runs-requires t)
@@ -475,11 +471,11 @@ pub +filled+keeps+own-reached+search-runs+try-at-spec : {M : Type 1} → stateme
     (own-reached-enum-told-4 t)
     (own-reached-enum-told-5 t)
     (own-reached-enum-told-6 t)
+    (own-reached-returns-4 t)
     (own-reached-returns-5 t)
     (own-reached-returns-6 t)
     (own-reached-returns-7 t)
-    (own-reached-returns-8 t)
-    (own-reached-returns-9 t))
+    (own-reached-returns-8 t))
     (λ t. search-runs-lts.spec (search-runs-claims t) (search-runs-at t)
     search-runs.Post
     search-runs-Inv-loop
@@ -491,6 +487,7 @@ pub +filled+keeps+own-reached+search-runs+try-at-spec : {M : Type 1} → stateme
     (search-runs-returns-2 t)
     (search-runs-instr-at-requires t)
     (search-runs-below-requires t)
+    (search-runs-appends-requires t)
     (search-runs-asks-requires t)
     (search-runs-filled-requires t)
     (search-runs-earliest-requires t)
