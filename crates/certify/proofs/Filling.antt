@@ -3,13 +3,13 @@
 use mathlib.Core.Path.{_≡_, refl, sym, ap, ap₂, _∙_, subst}
 use mathlib.Core.Logic.{inl, inr, ⊎-elim}
 use mathlib.Core.Bool.{Bool, true, false, not, _&&_}
-use mathlib.Core.List.{List}
 use mathlib.Core.Option.{none, some, Option·some-injective}
 use Prim.Native.Nat.{ℕ, _+_, _-_, _*_, _^_, _≤_, _<_}
 use native.Mathlib.Omega.{arith}
 use lib.Count.{ones}
 use lib.Dec.{T, eqb, ltb, eqb→eq, ltb→lt, lt→ltb}
 use lib.ListN.{length}
+use borrow.Author.Tests.{not-true}
 use lib.Seq.{getD-set-same}
 use Rattle.views.specs.Views.{viewAt}
 use Rattle.source.proofs.Tests.{and-left, and-right, and-both, eq→eqb}
@@ -22,21 +22,20 @@ use Rattle.machine.proofs.Sets.{has-positive, has-time, ones-without}
 use Rattle.machine.proofs.Words.{ones-eqb}
 use Rattle.machine.proofs.Cases.{was-true, ruled-done, ruled-refused}
 use Rattle.machine.proofs.Effects.{storeLocation, Promised, Effect, computed, loaded, stored, branched, fenced, effect}
-use Rattle.cares.specs.Cares.{Agreeing, Covers}
 use Rattle.cares.specs.declared.Cares.{Cares}
 use Rattle.certify.specs.Below.{Code, Operand, StoreMode, Instr, Store, Message, Memory, Thread}
 use Rattle.certify.specs.Certify.{messageOf, onward, certified}
 use Rattle.certify.specs.Answers.{Trying}
-use Rattle.certify.specs.Asks.{Seeks, Asks, FillsSame, Settles}
-use Rattle.certify.specs.Runs.{done}
-use Rattle.certify.specs.Sought.{Sought, fill, Fills, Aim, Least, Meets, Reached, Found}
-use Rattle.certify.specs.Under.{Rests}
+use Rattle.certify.specs.Asks.{Met, meeting, Unmet, Seeks, Repeats, Stores}
+use Rattle.certify.specs.Runs.{done, by, own}
+use Rattle.certify.specs.Sought.{Sought, fill, Fills, Aim, Better, same, more, Meets, Reached, Found, Filled, Keeps}
+use Rattle.certify.specs.Under.{Under, Rests}
 use Rattle.certify.proofs.Iff.{onward-inv, onward-next, certified-iff}
 use Rattle.certify.proofs.Executes.{executes}
 use Rattle.certify.proofs.Fit.{no-message}
-use Rattle.certify.proofs.Numbers.{not-both}
+use Rattle.certify.proofs.Numbers.{not-both, met-now, least-passes, zero-sought}
 use Rattle.certify.proofs.Resting.{store-too, store-rests}
-use Rattle.certify.proofs.Finding.{rests-less, found-none, other, comes-as}
+use Rattle.certify.proofs.Finding.{other, comes-as}
 
 -- what executes with a message of its own fulfils a promise
 own-out : (i : ℕ) {m : Memory} {w : Message} {t : ℕ} {s : Thread} {x : Instr} {s' : Thread} → messageOf i s x ≡ some w → Effect m t s x s' → T (has (s .promises) t)
@@ -52,107 +51,79 @@ fills-out {c} {i} {x} {h} {k} {m} {s} f =
     let q = onward-inv (certified c i m') (execute x m' h s) (f .keeps) in
     own-out i (f .is-own) (effect x m' h s (q .0) (q .1))
 
--- without a hole it is certification
-pub emptied : (c : Code) (i k : ℕ) (m : Memory) (s : Thread) → Aim c i 0 k m s → s .promises ≡ 0
-emptied c i k m s (inl p) = p .1
+-- without a hole it is certification, by number 0
+emptied : (c : Code) (i k : ℕ) (m : Memory) (s : Thread) → Aim c i 0 k m s → (s .promises ≡ 0) × (k ≡ 0)
+emptied c i k m s (inl p) = (p .2, p .1)
 emptied c i k m s (inr (x, g, f)) = let z = has-positive (s .promises) 0 (fills-out f) in absurd (omega arith)
 
 pub meets-certified : (c : Code) (i k : ℕ) (m : Memory) (s : Thread) → Meets c i m s 0 k → T (certified c i m s)
-meets-certified c i k m s w = certified-iff c i m s .1 (comes-as (emptied c i k) w)
+meets-certified c i k m s w = certified-iff c i m s .1 (comes-as (λ m u a. emptied c i k m u a .0) w)
 
-pub certified-meets : (c : Code) (i k : ℕ) (m : Memory) (s : Thread) → T (certified c i m s) → Meets c i m s 0 k
-certified-meets c i k m s t = comes-as (λ m u e. inl (refl, e)) (certified-iff c i m s .0 t)
+pub certified-meets : (c : Code) (i : ℕ) (m : Memory) (s : Thread) → T (certified c i m s) → Meets c i m s 0 0
+certified-meets c i m s t = comes-as (λ m u e. inl (refl, refl, e)) (certified-iff c i m s .0 t)
+
+pub only-zero : (c : Code) (i h k : ℕ) (m : Memory) (s : Thread) → h ≡ 0 → Meets c i m s h k → k ≡ 0
+only-zero c i h k m s z w = go (subst (λ (n : ℕ). Meets c i m s n k) z w)
+  where
+    go : {m : Memory} {s : Thread} → Meets c i m s 0 k → k ≡ 0
+    go {m} {s} (done a) = emptied c i k m s a .1
+    go (by x t y g tl e r) = go r
+    go (own x w y g gw room e r) = go r
 
 -- ---- the store's message in the hole
 module _ (c : Code) (i : ℕ) (x : Instr) (m : Memory) (s : Thread) (q : Sought) (k : Cares) where
+  fills-none : ((s' : Thread) → Rests (k .of) s s' → Repeats x s s' → (j : ℕ) → Seeks q j → Fills c i x (q .hole) j m s' → ⊥) → Filled c i m s x q (record { met = q .met; cares = k })
+  fills-none fails = record { better = same; barren = fails }
+
   -- no promise is at its time
-  pub fill-no-hole : (b : Bool) → b ≡ has (s .promises) (q .hole) → not b ≡ true → Found (q .from) (q .best) (λ y j. Fills c i x (q .hole) j m y) s (record { best = q .best; cares = k })
+  pub fill-no-hole : (b : Bool) → b ≡ has (s .promises) (q .hole) → not b ≡ true → Filled c i m s x q (record { met = q .met; cares = k })
   fill-no-hole b e n =
-      found-none (q .from) (q .best) (λ y j. Fills c i x (q .hole) j m y) s k (λ s' rests j u v f.
-      not-both b (subst T (sym e) (subst (λ (p : ℕ). T (has p (q .hole))) (sym (rests .under .same-promises)) (fills-out f))) n)
+      fills-none (λ s' rests rep j u f. not-both b (subst T (sym e) (subst (λ (p : ℕ). T (has p (q .hole))) (sym (rests .under .same-promises)) (fills-out f))) n)
 
   -- what is no store fills nothing
-  pub fill-none : ((y : Thread) → messageOf i y x ≡ none) → Found (q .from) (q .best) (λ y j. Fills c i x (q .hole) j m y) s (record { best = q .best; cares = k })
-  fill-none e = found-none (q .from) (q .best) (λ y j. Fills c i x (q .hole) j m y) s k (λ s' rests j u v f. no-message (sym (e s') ∙ f .is-own))
+  pub fill-none : ((y : Thread) → messageOf i y x ≡ none) → Filled c i m s x q (record { met = q .met; cares = k })
+  fill-none e = fills-none (λ s' rests rep j u f. no-message (sym (e s') ∙ f .is-own))
 
-  -- the one store, by the number that is sought
-  module _ (how : StoreMode) (a d : Operand) (is : x ≡ Store how a d) (w : Message) (we : w ≡ storeMessage i a d s) (byte : w .value < 256) (asked : Asks x m s q (k .of)) (fills : FillsSame x s q (k .of))
-      (o : Bool) (oe : o ≡ has (s .promises) (q .hole)) (on : not o ≡ false) (r : ℕ) (l : Least (q .from) (q .best) (λ j. 256 * w .location + w .value ≡ j) r) where
-    out : T (has (s .promises) (q .hole))
-    out = subst T (sym (was-true oe on)) tt
+  -- a store, by its number
+  module _ (how : StoreMode) (a d : Operand) (is : x ≡ Store how a d) (w : Message) (we : w ≡ storeMessage i a d s) where
+    abbrev number : ℕ
+    number = 256 * w .location + w .value
 
-    at : address (valueOf s a) ≡ w .location
-    at = ap (λ (y : Message). y .location) (sym we)
-
-    own-number : 256 * address (valueOf s a) + valueOf s d ≡ 256 * w .location + w .value
-    own-number = ap (λ (y : Message). 256 * y .location + y .value) (sym we)
-
-    -- a thread in which is so what the tries rest on, with a number that is sought, has a message to the same location
-    fill-place : (s' : Thread) → Rests (k .of) s s' → (j : ℕ) → q .from ≤ j → j < q .best → Fills c i x (q .hole) j m s' → address (valueOf s a) ≡ address (valueOf s' a)
-    fill-place s' rests j low high f =
-        ⊎-elim (λ same. same .place) (λ there.
+    same-message : (s' : Thread) → Repeats x s s' → (j : ℕ) (f : Fills c i x (q .hole) j m s') → f .message ≡ w
+    same-message s' rep j f =
+        let z = rep how a d is in
         let v : storeMessage i a d s' ≡ f .message = Option·some-injective _ _ (sym (ap (messageOf i s') is) ∙ f .is-own) in
-        let n : 256 * address (valueOf s' a) + valueOf s' d ≡ j = subst (λ (y : Message). 256 * y .location + y .value ≡ j) (sym v) (f .number) in
-        absurd (there .unsought out (valueOf s' d) (subst (λ (y : Message). y .value < 256) (sym v) (f .byte)) (subst (Seeks q) (sym n) (low, high))))
-        (asked .store how a d is s' (rests .agreeing))
+        sym v ∙ ap₂ (λ (l v : ℕ). record { location = l; value = v; thread = i }) (sym (z .0)) (sym (z .1)) ∙ sym we
 
-    fill-message : (s' : Thread) → Rests (k .of) s s' → (j : ℕ) → q .from ≤ j → j < q .best → (f : Fills c i x (q .hole) j m s') → f .message ≡ record { location = w .location; value = valueOf s' d; thread = i }
-    fill-message s' rests j low high f =
-        let v : storeMessage i a d s' ≡ f .message = Option·some-injective _ _ (sym (ap (messageOf i s') is) ∙ f .is-own) in
-        sym v ∙ ap (λ (y : ℕ). record { location = y; value = valueOf s' d; thread = i }) (sym (fill-place s' rests j low high f) ∙ at)
+    same-number : (s' : Thread) → Repeats x s s' → (j : ℕ) → Fills c i x (q .hole) j m s' → number ≡ j
+    same-number s' rep j f = subst (λ (y : Message). 256 * y .location + y .value ≡ j) (same-message s' rep j f) (f .number)
 
-    -- its number is not sought: no such thread has a number that is
-    pub fill-unsought : q .best ≤ r → Found (q .from) (q .best) (λ y j. Fills c i x (q .hole) j m y) s (record { best = q .best; cares = k })
-    fill-unsought b =
-        found-none (q .from) (q .best) (λ y j. Fills c i x (q .hole) j m y) s k (λ s' rests j low high f.
-        let z = fills .number how a d is out in
-        let e = fill-message s' rests j low high f in
-        let n : 256 * w .location + valueOf s' d ≡ j = subst (λ (y : Message). 256 * y .location + y .value ≡ j) e (f .number) in
-        z .1 .0 .missed (λ t. let n = subst (Seeks q) own-number t in let h = n .1 in l .least _ (n .0) (omega arith) refl) (valueOf s' d) (subst (λ (y : Message). y .value < 256) e (f .byte)) (z .1 .1 s' (rests .agreeing))
-        (subst (Seeks q) (sym (ap (λ (y : ℕ). 256 * y + valueOf s' d) at ∙ n)) (low, high)))
+    -- it is not sought
+    pub fill-unsought : (b : Bool) → (b ≡ false → Seeks q number → ⊥) → not b ≡ true → Filled c i m s x q (record { met = q .met; cares = k })
+    fill-unsought b e n = fills-none (λ s' rests rep j u f. e (not-true b n) (subst (Seeks q) (sym (same-number s' rep j f)) u))
 
-    module _ (under : r < q .best) where
-      own-sought : Seeks q (256 * address (valueOf s a) + valueOf s d)
-      own-sought = let hit = l .better .hit under in subst (Seeks q) (sym (own-number ∙ hit .1)) (hit .0, under)
+    module _ (m' : Memory) (me : m' ≡ fill m (q .hole) w) where
+      -- it is, and the promise is kept by it
+      pub fill-here : w .value < 256 → Seeks q number → (p : Met) → p ≡ meeting number (q .met) → T (onward (certified c i m') (execute (Store how a d) m' (q .hole) s)) → Filled c i m s x q (record { met = p; cares = k })
+      fill-here byte sought p pe t =
+          record {
+            better = subst (Better (q .from) (λ j. Fills c i x (q .hole) j m s) (q .met)) (sym pe) (more number same sought
+                (record {
+                  message = w;
+                  is-own = ap (messageOf i s) is ∙ ap some (sym we);
+                  byte = byte;
+                  number = refl;
+                  keeps = subst (λ (y : Memory). T (onward (certified c i y) (execute x y (q .hole) s))) me (subst (λ (y : Instr). T (onward (certified c i m') (execute y m' (q .hole) s))) (sym is) t);
+                }));
+            barren = λ s' rests rep j u f. met-now (q .from) number (q .met) (subst (λ (z : Met). Unmet (q .from) z number) pe (subst (Unmet (q .from) p) (sym (same-number s' rep j f)) u));
+          }
 
-      -- its number is sought: the value is the same
-      same-data : (s' : Thread) → Agreeing (k .of) s s' → valueOf s d ≡ valueOf s' d
-      same-data s' agree = let z = fills .number how a d is out in z .1 .0 .found own-sought (valueOf s' d) (z .1 .1 s' agree)
-
-      same-message : (s' : Thread) → Rests (k .of) s s' → (j : ℕ) → q .from ≤ j → j < q .best → (f : Fills c i x (q .hole) j m s') → f .message ≡ w
-      same-message s' rests j low high f =
-          fill-message s' rests j low high f ∙ ap₂ (λ (y z : ℕ). record { location = y; value = z; thread = i }) (sym at) (sym (same-data s' (rests .agreeing))) ∙ sym we
-
-      -- it stores the same, in every such thread
-      pub settles : Settles (Store how a d) s (k .of)
-      settles = record { mode = how; a = a; d = d; is-store = refl; same = λ s' agree. (fills .place how a d is out (subst (λ (y : Message). y .value < 256) we byte) own-sought s' agree, same-data s' agree) }
-
-      module _ (m' : Memory) (me : m' ≡ fill m (q .hole) w) where
-        pub fill-here : T (onward (certified c i m') (execute (Store how a d) m' (q .hole) s)) → Found (q .from) (q .best) (λ y j. Fills c i x (q .hole) j m y) s (record { best = r; cares = k })
-        fill-here t =
-            record {
-              better = record {
-                low = l .better .low;
-                hit = λ b. let h = l .better .hit b in (
-                  h .0,
-                  record {
-                    message = w;
-                    is-own = ap (messageOf i s) is ∙ ap some (sym we);
-                    byte = byte;
-                    number = h .1;
-                    keeps = subst (λ (y : Memory). T (onward (certified c i y) (execute x y (q .hole) s))) me (subst (λ (y : Instr). T (onward (certified c i m') (execute y m' (q .hole) s))) (sym is) t);
-                  },
-                );
-              };
-              barren = λ s' rests j u v f. let top = l .better .low in l .least j u v (subst (λ (y : Message). 256 * y .location + y .value ≡ j) (same-message s' rests j u (omega arith) f) (f .number));
-            }
-
-        pub fill-fails : (k' : Cares) → Covers (k' .of) (k .of) → ((s' : Thread) → Rests (k' .of) s s' → T (onward (certified c i m') (execute (Store how a d) m' (q .hole) s')) → ⊥)
-            → Found (q .from) (q .best) (λ y j. Fills c i x (q .hole) j m y) s (record { best = q .best; cares = k' })
-        fill-fails k' covers fails =
-            found-none (q .from) (q .best) (λ y j. Fills c i x (q .hole) j m y) s k' (λ s' rests j u v f.
-            let in-hole : fill m (q .hole) (f .message) ≡ m' = ap (fill m (q .hole)) (same-message s' (rests-less covers rests) j u v f) ∙ sym me in
-            fails s' rests (subst (λ (y : Instr). T (onward (certified c i m') (execute y m' (q .hole) s'))) is (subst (λ (y : Memory). T (onward (certified c i y) (execute x y (q .hole) s'))) in-hole (f .keeps))))
+      -- it is not kept
+      pub fill-fails : ((s' : Thread) → Rests (k .of) s s' → Repeats x s s' → T (onward (certified c i m') (execute (Store how a d) m' (q .hole) s')) → ⊥) → Filled c i m s x q (record { met = q .met; cares = k })
+      fill-fails fails =
+          fills-none (λ s' rests rep j u f.
+          let in-hole : fill m (q .hole) (f .message) ≡ m' = ap (fill m (q .hole)) (same-message s' rep j f) ∙ sym me in
+          fails s' rests rep (subst (λ (y : Instr). T (onward (certified c i m') (execute y m' (q .hole) s'))) is (subst (λ (y : Memory). T (onward (certified c i y) (execute x y (q .hole) s'))) in-hole (f .keeps))))
 
 -- the hole is at a time of the memory
 pub hole-time : (c : Code) (m : Memory) (s : Thread) (x : Instr) → Trying c m s x → (h : ℕ) (b : Bool) → b ≡ has (s .promises) h → not b ≡ false → (0 < h) × (h ≤ 16)
@@ -168,12 +139,12 @@ trying-filled {c} {m} {m'} {s} {x} {y} h w t me e =
     subst (λ (z : Memory). Trying c z s y) (sym me)
     (record { ready = record { code-ok = t .ready .code-ok; room = t .ready .room; promises-in = t .ready .promises-in }; is-next = t .is-next ∙ ap some e })
 
--- a thread in which is so what a store rests on executes it only if this one does
-settled-too : (x : Instr) (m : Memory) (s : Thread) (t : ℕ) (k : List ℕ) → Settles x s k → (s' : Thread) → Rests k s s' → (y' : Thread) → execute x m t s' ≡ next y' → (y : Thread) × (execute x m t s ≡ next y)
-settled-too x m s t k settles s' rests y' e =
-    let same = settles .same s' (rests .agreeing) in
-    let mine = store-too m (settles .mode) (settles .a) (settles .d) s s' (rests .under) (same .0) t y' (same .1) (subst (λ (o : Instr). execute o m t s' ≡ next y') (settles .is-store) e) in
-    (mine .0, subst (λ (o : Instr). execute o m t s ≡ next (mine .0)) (sym (settles .is-store)) (mine .1))
+-- a thread that stores the same executes it only if this one does
+repeated : (x : Instr) (m : Memory) (s : Thread) (t : ℕ) → (o : Stores x) → (s' : Thread) → Under s s' → Repeats x s s' → (y' : Thread) → execute x m t s' ≡ next y' → (y : Thread) × (execute x m t s ≡ next y)
+repeated x m s t o s' under rep y' e =
+    let same = rep (o .mode) (o .a) (o .d) (o .is-store) in
+    let mine = store-too m (o .mode) (o .a) (o .d) s s' under (same .0) t y' (same .1) (subst (λ (z : Instr). execute z m t s' ≡ next y') (o .is-store) e) in
+    (mine .0, subst (λ (z : Instr). execute z m t s ≡ next (mine .0)) (sym (o .is-store)) (mine .1))
 
 -- ---- where the hole is the only promise, filling it keeps all promises if the views are below its time
 module _ (c : Code) (i : ℕ) (m : Memory) (s : Thread) (k : StoreMode) (a d : Operand) (h : ℕ) (w : Message) (we : w ≡ storeMessage i a d s)
@@ -212,11 +183,11 @@ module _ (c : Code) (i : ℕ) (m : Memory) (s : Thread) (k : StoreMode) (a d : O
           let there = getD-set-same (m .messages) (h - 1) w noMessage (omega arith) in
           record { out = out; in-memory = low; at-location = ap (λ (y : Message). y .location) (there ∙ we); at-value = ap (λ (y : Message). y .value) (there ∙ we) }
 
-  pub alone-lost : (k' : List ℕ) → Settles (Store k a d) s k' → b ≡ false → (m' : Memory) (s' : Thread) → Rests k' s s' → T (onward (certified c i m') (execute (Store k a d) m' h s')) → ⊥
+  pub alone-lost : b ≡ false → (m' : Memory) (s' : Thread) → Under s s' → Repeats (Store k a d) s s' → T (onward (certified c i m') (execute (Store k a d) m' h s')) → ⊥
   unfolding belowTime
-  alone-lost k' settles z m' s' rests t =
+  alone-lost z m' s' under rep t =
       let q = onward-inv (certified c i m') (execute (Store k a d) m' h s') t in
-      let mine = settled-too (Store k a d) m' s h k' settles s' rests (q .0) (q .1) in
+      let mine = repeated (Store k a d) m' s h (record { mode = k; a = a; d = d; is-store = refl }) s' under rep (q .0) (q .1) in
       subst T (sym be ∙ z) (tells (mine .0) (effect (Store k a d) m' h s (mine .0) (mine .1)))
     where
       tells : (y : Thread) → Effect m' h s (Store k a d) y → T (belowTime k h (w .location) (viewOf s a) (viewOf s d) s)
@@ -224,30 +195,28 @@ module _ (c : Code) (i : ℕ) (m : Memory) (s : Thread) (k : StoreMode) (a d : O
           and-both (ltb pre h) (ltb (viewAt (s .coherence) (w .location)) h) (lt→ltb pre h early) (lt→ltb _ h (subst (λ (l : ℕ). viewAt (s .coherence) l < h) (sym in-place) low))
 
 -- ---- whether the store can be executed and the thread is then certified
-module _ (c : Code) (i : ℕ) (m : Memory) (s : Thread) (x : Instr) (t : ℕ) (k : Cares) (settles : Settles x s (k .of)) (u : Ruled) (e : u ≡ ruled s (execute x m t s)) where
-  as-store : (v y : Thread) → execute x m t v ≡ next y → execute (Store (settles .mode) (settles .a) (settles .d)) m t v ≡ next y
-  as-store v y d = subst (λ (o : Instr). execute o m t v ≡ next y) (settles .is-store) d
+module _ (c : Code) (i : ℕ) (m : Memory) (s : Thread) (x : Instr) (t : ℕ) (o : Stores x) (u : Ruled) (e : u ≡ ruled s (execute x m t s)) where
+  as-store : (v y : Thread) → execute x m t v ≡ next y → execute (Store (o .mode) (o .a) (o .d)) m t v ≡ next y
+  as-store v y d = subst (λ (z : Instr). execute z m t v ≡ next y) (o .is-store) d
 
-  pub keeps-refused : (n : ℕ) → u .answer ≡ Refused n → Found 0 1 (λ y j. T (onward (certified c i m) (execute x m t y))) s (record { best = 1; cares = k })
-  keeps-refused n z =
-      found-none 0 1 (λ y j. T (onward (certified c i m) (execute x m t y))) s k (λ s' rests j a b p.
-      let q = onward-inv (certified c i m) (execute x m t s') p in
-      let mine = settled-too x m s t (k .of) settles s' rests (q .0) (q .1) in
-      other (sym (ruled-refused s (execute x m t s) u n e z) ∙ mine .1))
+  pub keeps-refused : (n : ℕ) → u .answer ≡ Refused n → (k : Cares) → Keeps c i m s x t (record { met = record { least = 1; second = 1 }; cares = k })
+  keeps-refused n z k =
+      record {
+        is-kept = λ h. absurd (omega arith);
+        is-lost = λ lost s' rests rep p.
+            let q = onward-inv (certified c i m) (execute x m t s') p in
+            let mine = repeated x m s t o s' (rests .under) rep (q .0) (q .1) in
+            other (sym (ruled-refused s (execute x m t s) u n e z) ∙ mine .1);
+      }
 
-  pub keeps-done : u .answer ≡ Done → (then : Reached) → Found 0 1 (λ y j. Meets c i m y 0 j) (u .thread) then
-      → (k' : Cares) → Covers (k' .of) (then .cares .of) → Covers (k' .of) (k .of)
-      → Found 0 1 (λ y j. T (onward (certified c i m) (execute x m t y))) s (record { best = then .best; cares = k' })
-  keeps-done z then found k' more more' =
+  pub keeps-done : u .answer ≡ Done → (then : Reached) → Found 0 (record { least = 1; second = 1 }) (λ y j. Meets c i m y 0 j) (u .thread) then → Keeps c i m s x t then
+  keeps-done z then found =
       let does = ruled-done s (execute x m t s) u e z in
       record {
-        better = record {
-          low = found .better .low;
-          hit = λ l. let q = found .better .hit l in (q .0, onward-next (certified c i m) (execute x m t s) (u .thread) does (meets-certified c i (then .best) m (u .thread) (q .1)));
-        };
-        barren = λ s' rests j a b p.
+        is-kept = λ h. onward-next (certified c i m) (execute x m t s) (u .thread) does (⊎-elim (λ (p : then .met .least ≡ 1). absurd (omega arith)) (λ w. meets-certified c i (then .met .least) m (u .thread) w) (least-passes (found .better)));
+        is-lost = λ lost s' rests rep p.
             let q = onward-inv (certified c i m) (execute x m t s') p in
-            let same = settles .same s' (rests-less more' rests .agreeing) in
-            let after = store-rests m (settles .mode) (settles .a) (settles .d) s s' (rests .under) (same .0) (then .cares .of) (rests-less more rests .agreeing) t (u .thread) (q .0) (as-store s (u .thread) does) (as-store s' (q .0) (q .1)) in
-            found .barren (q .0) after j a b (certified-meets c i j m (q .0) (q .2));
+            let same = rep (o .mode) (o .a) (o .d) (o .is-store) in
+            let after = store-rests m (o .mode) (o .a) (o .d) s s' (rests .under) (same .0) (then .cares .of) (rests .agreeing) t (u .thread) (q .0) (as-store s (u .thread) does) (as-store s' (q .0) (q .1)) in
+            found .barren (q .0) after 0 (zero-sought (found .better) (omega arith, omega arith, λ n. omega arith) lost) (certified-meets c i m (q .0) (q .2));
       }

@@ -26,6 +26,7 @@ use Rattle.certify.specs.Sought.{Sought, Reached, Meets, Owns, Found, Ap
 use Rattle.certify.specs.Under.{Rests}
 use Rattle.certify.proofs.Fit.{no-message, own-effect, own-leaves, comes-fit}
 use Rattle.certify.proofs.Resting.{promise-rests, store-too, store-rests}
+use Rattle.certify.proofs.Numbers.{better-as}
 use Rattle.certify.proofs.Finding.{rests-less, found-none, other}
 use Rattle.certify.proofs.Stores.{aim-fits}
 
@@ -35,14 +36,14 @@ value-promised m s (Constant n) = refl
 value-promised m s (OfRegister r) = refl
 
 module _ (c : Code) (i : ℕ) (m : Memory) (s : Thread) (x : Instr) (q : Sought) (k : Cares) where
-  pub owns-none : ((y : Thread) → messageOf i y x ≡ none) → Found (q .from) (q .best) (λ y j. Owns c i m y x (q .hole) j) s (record { best = q .best; cares = k })
-  owns-none e = found-none (q .from) (q .best) (λ y j. Owns c i m y x (q .hole) j) s k (λ s' rests j a b w. no-message (sym (e s') ∙ w .is-own))
+  pub owns-none : ((y : Thread) → messageOf i y x ≡ none) → Found (q .from) (q .met) (λ y j. Owns c i m y x (q .hole) j) s (record { met = q .met; cares = k })
+  owns-none e = found-none (q .from) (q .met) (λ y j. Owns c i m y x (q .hole) j) s k (λ s' rests j u w. no-message (sym (e s') ∙ w .is-own))
 
   -- there is no room, or too few stores are left after it
   owns-never : (k₁ : StoreMode) (a d : Operand) → x ≡ Store k₁ a d → (16 ≤ m .count) ⊎ (storesFrom c (s .position + 1) < ones (s .promises))
-      → Found (q .from) (q .best) (λ y j. Owns c i m y x (q .hole) j) s (record { best = q .best; cares = k })
+      → Found (q .from) (q .met) (λ y j. Owns c i m y x (q .hole) j) s (record { met = q .met; cares = k })
   owns-never k₁ a d is full =
-      found-none (q .from) (q .best) (λ y j. Owns c i m y x (q .hole) j) s k (λ s' rests j l h w.
+      found-none (q .from) (q .met) (λ y j. Owns c i m y x (q .hole) j) s k (λ s' rests j u w.
       ⊎-elim (λ none. let few = w .fewer in omega arith) (λ few.
       let f = comes-fit (aim-fits c i (q .hole) j) (w .goes-on) in
       let does = effect x (append m (w .message)) ((append m (w .message)) .count) (addPromise (append m (w .message)) s') (w .after) (w .does) in
@@ -54,13 +55,13 @@ module _ (c : Code) (i : ℕ) (m : Memory) (s : Thread) (x : Instr) (q : Sought)
       omega arith) full)
 
   -- it is not tried
-  pub owns-untried : (b : Bool) → Appends c m s x b → not b ≡ true → Found (q .from) (q .best) (λ y j. Owns c i m y x (q .hole) j) s (record { best = q .best; cares = k })
+  pub owns-untried : (b : Bool) → Appends c m s x b → not b ≡ true → Found (q .from) (q .met) (λ y j. Owns c i m y x (q .hole) j) s (record { met = q .met; cares = k })
   owns-untried b h n = go x refl
     where
-      no-message-of : (o : Instr) → ((y : Thread) → messageOf i y o ≡ none) → x ≡ o → Found (q .from) (q .best) (λ y j. Owns c i m y x (q .hole) j) s (record { best = q .best; cares = k })
+      no-message-of : (o : Instr) → ((y : Thread) → messageOf i y o ≡ none) → x ≡ o → Found (q .from) (q .met) (λ y j. Owns c i m y x (q .hole) j) s (record { met = q .met; cares = k })
       no-message-of o silent e = owns-none (λ y. ap (messageOf i y) e ∙ silent y)
 
-      go : (o : Instr) → x ≡ o → Found (q .from) (q .best) (λ y j. Owns c i m y x (q .hole) j) s (record { best = q .best; cares = k })
+      go : (o : Instr) → x ≡ o → Found (q .from) (q .met) (λ y j. Owns c i m y x (q .hole) j) s (record { met = q .met; cares = k })
       go (Compute how r a b) e = no-message-of (Compute how r a b) (λ y. refl) e
       go (Load how r a b) e = no-message-of (Load how r a b) (λ y. refl) e
       go (Store how a d) e = owns-never how a d e (h .never (not-true b n) how a d e)
@@ -100,37 +101,31 @@ module _ (c : Code) (i : ℕ) (m : Memory) (s : Thread) (x : Instr) (q : Sought)
               (subst (λ (z : Instr). execute z (append m (o .message)) ((append m (o .message)) .count) (addPromise (append m (o .message)) s') ≡ next (o .after)) is (o .does)),
         )
 
-    pub owns-stuck : (n : ℕ) → u .answer ≡ Refused n → Found (q .from) (q .best) (λ y j. Owns c i m y x (q .hole) j) s (record { best = q .best; cares = settled })
+    pub owns-stuck : (n : ℕ) → u .answer ≡ Refused n → Found (q .from) (q .met) (λ y j. Owns c i m y x (q .hole) j) s (record { met = q .met; cares = settled })
     unfolding ownStore w m'
     owns-stuck n z =
-        found-none (q .from) (q .best) (λ y j. Owns c i m y x (q .hole) j) s settled (λ s' rests j l h o.
+        found-none (q .from) (q .met) (λ y j. Owns c i m y x (q .hole) j) s settled (λ s' rests j l o.
         let mine = store-too m' how a d (addPromise m' s) (addPromise m' s') (promise-rests m' rests .under) (promised-place s' rests) (m' .count) (o .after) (promised-data s' rests) (own-same s' rests j o .1) in
         other (sym (ruled-refused s (ownStore how a d m i s) u n e z) ∙ mine .1))
 
-    pub owns-goes : (m₁ : Memory) → m₁ ≡ append m (storeMessage i a d s) → u .answer ≡ Done → (then : Reached) → Found (q .from) (q .best) (λ y j. Meets c i m₁ y (q .hole) j) (u .thread) then
+    pub owns-goes : (m₁ : Memory) → m₁ ≡ append m (storeMessage i a d s) → u .answer ≡ Done → (then : Reached) → Found (q .from) (q .met) (λ y j. Meets c i m₁ y (q .hole) j) (u .thread) then
         → (k' : Cares) → Covers (k' .of) (then .cares .of) → Covers (k' .of) (settled .of)
-        → Found (q .from) (q .best) (λ y j. Owns c i m y x (q .hole) j) s (record { best = then .best; cares = k' })
+        → Found (q .from) (q .met) (λ y j. Owns c i m y x (q .hole) j) s (record { met = then .met; cares = k' })
     unfolding ownStore w m'
     owns-goes m₁ me z then found k' more more' =
         let does = ruled-done s (ownStore how a d m i s) u e z in
         record {
-          better = record {
-            low = found .better .low;
-            hit = λ l. let p = found .better .hit l in (
-              p .0,
-              record {
-                message = w;
-                after = u .thread;
-                is-own = ap (messageOf i s) is;
-                fewer = few;
-                does = ap (λ (v : Instr). execute v m' (m' .count) (addPromise m' s)) is ∙ does;
-                goes-on = subst (λ (y : Memory). Meets c i y (u .thread) (q .hole) (then .best)) me (p .1);
-              },
-            );
-          };
-          barren = λ s' rests j l h o.
+          better = better-as (λ j p. record {
+            message = w;
+            after = u .thread;
+            is-own = ap (messageOf i s) is;
+            fewer = few;
+            does = ap (λ (v : Instr). execute v m' (m' .count) (addPromise m' s)) is ∙ does;
+            goes-on = subst (λ (y : Memory). Meets c i y (u .thread) (q .hole) j) me p;
+          }) (found .better);
+          barren = λ s' rests j l o.
               let settles = rests-less more' rests in
               let its = own-same s' settles j o in
               let after = store-rests m' how a d (addPromise m' s) (addPromise m' s') (promise-rests m' settles .under) (promised-place s' settles) (then .cares .of) (rests-less more rests .agreeing) (m' .count) (u .thread) (o .after) does (its .1) in
-              found .barren (o .after) after j l h (subst (λ (y : Memory). Meets c i y (o .after) (q .hole) j) (ap (append m) (its .0) ∙ sym me) (o .goes-on));
+              found .barren (o .after) after j l (subst (λ (y : Memory). Meets c i y (o .after) (q .hole) j) (ap (append m) (its .0) ∙ sym me) (o .goes-on));
         }

@@ -23,16 +23,16 @@ use Rattle.certify.proofs.Stores.{crowds}
 
 -- ---- whether the number of a store is sought
 module _ (q : Sought) (l v b n : ℕ) (be : b ≡ 256 * l) (ne : n ≡ b + v) where
-  -- it is not below best, nor is that of any other value
-  pub unsought-all : q .best ≤ n → q .best ≤ b → Unsought q l v 0
+  -- it is not below the second that is met, nor is that of any other value
+  pub unsought-all : q .met .second ≤ n → q .met .second ≤ b → Unsought q l v 0
   unsought-all high all = record { found = λ t. let h = t .1 in absurd (omega arith); missed = λ none y yb a t. let h = t .1 in omega arith }
 
-  -- it is not below best, nor is that of a value as large as the care says
-  pub unsought-above : q .best ≤ n → b < q .best → (k : ℕ) → k ≡ 512 + (q .best - b) → k < 768 → Unsought q l v k
+  -- it is not below it, nor is that of a value as large as the care says
+  pub unsought-above : q .met .second ≤ n → b < q .met .second → (k : ℕ) → k ≡ 512 + (q .met .second - b) → k < 768 → Unsought q l v k
   unsought-above high low k ke top =
       record {
         found = λ t. let h = t .1 in absurd (omega arith);
-        missed = λ none y yb a t. let h = t .1 in ⊎-elim (λ e. none (let f = t .0 in (omega arith, omega arith))) (λ large. omega arith) (not-less (omega arith) top a);
+        missed = λ none y yb a t. let h = t .1 in ⊎-elim (λ e. none (subst (λ (z : ℕ). Seeks q (256 * l + z)) (sym e) t)) (λ large. omega arith) (not-less (omega arith) top a);
       }
 
   -- it is below `from`, as is that of any byte
@@ -44,12 +44,12 @@ module _ (q : Sought) (l v b n : ℕ) (be : b ≡ 256 * l) (ne : n ≡ b + v) wh
   unsought-below low k ke top =
       record {
         found = λ t. let h = t .0 in absurd (omega arith);
-        missed = λ none y yb a t. let h = t .0 in ⊎-elim (λ e. let f = t .1 in none (omega arith, omega arith)) (λ small. omega arith) (less (omega arith) (omega arith) a);
+        missed = λ none y yb a t. let h = t .0 in ⊎-elim (λ e. none (subst (λ (z : ℕ). Seeks q (256 * l + z)) (sym e) t)) (λ small. omega arith) (less (omega arith) (omega arith) a);
       }
 
-  -- it is sought
-  pub unsought-not : n < q .best → q .from ≤ n → Unsought q l v 2
-  unsought-not low high = record { found = λ t y a. same-value a; missed = λ none y yb a t. none (omega arith, omega arith) }
+-- the value itself is asked for
+pub unsought-same : (q : Sought) (l v : ℕ) → Unsought q l v 2
+unsought-same q l v = record { found = λ t y a. same-value a; missed = λ none y yb a t. none (subst (λ (z : ℕ). Seeks q (256 * l + z)) (sym (same-value a)) t) }
 
 -- ---- the only location of promises and of numbers that are sought
 -- where the hole is among the promises, every number that is sought is at e

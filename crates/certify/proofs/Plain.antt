@@ -66,7 +66,7 @@ plain-silent (Fence k) s s' p i w e = let z : _≡_ {A = ℕ} 0 1 = cc in omega 
 
 module _ (c : Code) (m : Memory) (y y' : Thread) (x : Instr) (g : instrAt c (y .position) ≡ some x) (p : plainly x y ≡ some y') where
   plain-back : (i h k : ℕ) → Meets c i m y h k → Meets c i m y' h k
-  plain-back i h k (done (inl z)) = done (inl (z .0, plain-promises x y y' p ∙ z .1))
+  plain-back i h k (done (inl z)) = done (inl (z .0, z .1, plain-promises x y y' p ∙ z .2))
   plain-back i h k (done (inr (x', g', w))) = absurd (plain-silent x y y' p i (w .message) (ap (messageOf i y) (Option·some-injective x x' (sym g ∙ g')) ∙ w .is-own))
   plain-back i h k (by x' t s' g' tl e w) =
       let e' = subst (λ (v : Instr). execute v m t y ≡ next s') (sym (Option·some-injective x x' (sym g ∙ g'))) e in

@@ -1,152 +1,193 @@
 -- What the search of runs relies on, on plain values: one state, and the instructions before it that have one way to go on.
 -- Assumes nothing.
 use mathlib.Core.Path.{_≡_, refl, sym, ap, _∙_, subst}
-use mathlib.Core.Logic.{inl, inr}
+use mathlib.Core.Logic.{inl, inr, ⊎-elim}
 use mathlib.Core.Option.{some, Option·some-injective}
 use Prim.Native.Nat.{ℕ, _+_, _-_, _*_, _≤_, _<_}
-use native.Mathlib.Decide.{decLt}
+use native.Mathlib.Decide.{ℕ-discrete, decLt}
 use native.Mathlib.Omega.{arith}
-use lib.Dec.{eqb, eqb→eq}
+use lib.Dec.{T, eqb, eqb→eq}
 use Rattle.source.specs.Program.{instrAt}
 use Rattle.source.proofs.Counts.{there}
 use Rattle.source.proofs.Tests.{eq→eqb, is-true, is-false}
-use Rattle.machine.specs.State.{append}
-use Rattle.machine.specs.Rules.{next, execute, addPromise}
+use Rattle.machine.specs.State.{append, has}
+use Rattle.machine.specs.Rules.{next, valueOf, address, execute, addPromise}
 use Rattle.machine.specs.Answers.{ruled, storeMessage, ownStore}
 use Rattle.machine.specs.declared.RuleAnswer.the-variants.{Done}
 use Rattle.machine.specs.declared.Ruled.{Ruled}
 use Rattle.machine.proofs.Cases.{ruled-done}
-use Rattle.machine.proofs.Effects.{effect, moves}
-use Rattle.cares.specs.Cares.{Covers}
+use Rattle.machine.proofs.Effects.{effect, effect-time, moves}
+use Rattle.cares.specs.Cares.{Agreeing, Covers}
 use Rattle.cares.specs.declared.Cares.{Cares}
-use Rattle.certify.specs.Below.{Code, Operand, StoreMode, Instr, Store, Memory, Thread}
+use Rattle.certify.specs.Below.{Code, Operand, StoreMode, Instr, Store, Message, Memory, Thread}
 use Rattle.certify.specs.Certify.{messageOf, certified}
 use Rattle.certify.specs.Answers.{Trying}
 use Rattle.certify.specs.Runs.{done, by, own}
-use Rattle.certify.specs.Sought.{Sought, Tried, Reached, Fills, Better, Least, Meets, Owns, Found, Missed}
+use Rattle.certify.specs.Asks.{Unmet, Seeks, Asks, FillsSame, Repeats}
+use Rattle.certify.specs.Sought.{Met, Sought, Tried, Reached, Fills, Better, same, Twice, Emptied, Meets, Owns, Found, Unkept, Filled, Missed, Through}
 use Rattle.certify.specs.Straight.{Leads, Halts, Ran}
 use Rattle.certify.specs.Under.{Rests}
-use Rattle.certify.proofs.Numbers.{better-on}
+use Rattle.certify.proofs.Numbers.{narrows, better-on, better-as, least-passes, zero-sought, emptied-better, emptied-now}
 use Rattle.certify.proofs.Plain.{leads-there, leads-back}
 use Rattle.certify.proofs.Resting.{rests-self}
-use Rattle.certify.proofs.Finding.{rests-less}
-use Rattle.certify.proofs.Filling.{meets-certified, certified-meets}
+use Rattle.certify.proofs.Finding.{rests-less, asked-likewise}
+use Rattle.certify.proofs.Filling.{fills-out, meets-certified, certified-meets, only-zero}
 
 -- ---- what is asked of the search
-pub found-least : (from best : ℕ) (P : Thread → ℕ → Type 0) (s : Thread) (r : Reached) → Found from best P s r → Least from best (P s) (r .best)
-found-least from best P s r f = record { better = f .better; least = λ k a b p. f .barren s (rests-self (r .cares .of) s) k a b p }
+pub found-twice : (from : ℕ) (p : Met) (P : Thread → ℕ → Type 0) (s : Thread) (r : Reached) → Found from p P s r → Twice from p (P s) (r .met)
+found-twice from p P s r f = record { better = f .better; none = λ k u h. f .barren s (rests-self (r .cares .of) s) k u h }
 
-pub found-certified : (c : Code) (i : ℕ) (m : Memory) (s : Thread) (r : ℕ) → Least 0 1 (Meets c i m s 0) r → eqb r 0 ≡ certified c i m s
-found-certified c i m s r l = go (decLt r 1)
+pub found-certified : (c : Code) (i : ℕ) (m : Memory) (s : Thread) (r : Met) → Twice 0 (record { least = 1; second = 1 }) (Meets c i m s 0) r → eqb (r .least) 0 ≡ certified c i m s
+found-certified c i m s r f = go (ℕ-discrete (r .least) 0)
   where
-    go : Dec (r < 1) → eqb r 0 ≡ certified c i m s
-    go (yes h) =
-        let zero : r ≡ 0 = omega arith in
-        is-true (eqb r 0) (eq→eqb zero) ∙ sym (is-true (certified c i m s) (meets-certified c i r m s (l .better .hit h .1)))
-    go (no h) =
-        is-false (eqb r 0) (λ z. let e = eqb→eq r 0 z in omega arith)
-        ∙ sym (is-false (certified c i m s) (λ z. l .least 0 (omega arith) (omega arith) (certified-meets c i 0 m s z)))
+    go : Dec (r .least ≡ 0) → eqb (r .least) 0 ≡ certified c i m s
+    go (yes z) =
+        is-true (eqb (r .least) 0) (eq→eqb z)
+        ∙ sym (is-true (certified c i m s) (⊎-elim (λ (e : r .least ≡ 1). absurd (omega arith)) (λ w. meets-certified c i (r .least) m s w) (least-passes (f .better))))
+    go (no n) =
+        is-false (eqb (r .least) 0) (λ z. n (eqb→eq (r .least) 0 z))
+        ∙ sym (is-false (certified c i m s) (λ z. f .none 0 (zero-sought (f .better) (omega arith, omega arith, λ e. omega arith) n) (certified-meets c i m s z)))
 
 -- ---- one state
-module _ (c : Code) (i : ℕ) (m : Memory) (s : Thread) (q : Sought) (now : ℕ) (kept : Least (q .from) (q .best) (λ k. (q .hole ≡ 0) × (s .promises ≡ 0)) now) where
-  -- an empty promise set
-  pub reach-now : Better (q .from) (q .best) (Meets c i m s (q .hole)) now
-  reach-now = record { low = kept .better .low; hit = λ h. let p = kept .better .hit h in (p .0, done (inl (p .1))) }
-
+module _ (c : Code) (i : ℕ) (m : Memory) (s : Thread) (q : Sought) where
   -- the thread is at its end
-  pub reach-end : c .count ≤ s .position → (k : Cares) → Found (q .from) (q .best) (λ y j. Meets c i m y (q .hole) j) s (record { best = now; cares = k })
-  reach-end h k = record { better = reach-now; barren = λ s' rests j a b r. ended s' rests j a b r }
+  pub reach-end : (q .hole ≡ 0 → s .promises ≡ 0 → ⊥) → c .count ≤ s .position → (k : Cares) → Found (q .from) (q .met) (λ y j. Meets c i m y (q .hole) j) s (record { met = q .met; cares = k })
+  reach-end unkept h k = record { better = same; barren = λ s' rests j u r. ended s' rests j r }
     where
       past : (s' : Thread) → Rests (k .of) s s' → (x : Instr) → instrAt c (s' .position) ≡ some x → ⊥
       past s' rests x g = let l = there c (s' .position) x g .0 in let at = rests .under .same-position in omega arith
 
-      ended : (s' : Thread) → Rests (k .of) s s' → (j : ℕ) → q .from ≤ j → j < now → Meets c i m s' (q .hole) j → ⊥
-      ended s' rests j a b (done (inl p)) = kept .least j a b (p .0, rests .under .same-promises ∙ p .1)
-      ended s' rests j a b (done (inr (x, g, f))) = past s' rests x g
-      ended s' rests j a b (by x t y g tl e r) = past s' rests x g
-      ended s' rests j a b (own x w y g gw room e r) = past s' rests x g
+      ended : (s' : Thread) → Rests (k .of) s s' → (j : ℕ) → Meets c i m s' (q .hole) j → ⊥
+      ended s' rests j (done (inl p)) = unkept (p .0) (rests .under .same-promises ∙ p .2)
+      ended s' rests j (done (inr (x, g, f))) = past s' rests x g
+      ended s' rests j (by x t y g tl e r) = past s' rests x g
+      ended s' rests j (own x w y g gw room e r) = past s' rests x g
+
+  -- nothing is sought any more
+  pub reach-ended : (r : Reached) → Better (q .from) (Meets c i m s (q .hole)) (q .met) (r .met) → ((n : ℕ) → Unmet (q .from) (r .met) n → ⊥) → Found (q .from) (q .met) (λ y j. Meets c i m y (q .hole) j) s r
+  reach-ended r better over = record { better = better; barren = λ s' rests k u w. over k u }
 
   -- ---- its instruction x
-  module _ (x : Instr) (is-next : instrAt c (s .position) ≡ some x) (here : Reached) (fills : Found (q .from) now (λ y j. Fills c i x (q .hole) j m y) s here) where
-    fills-meets : Better (q .from) now (Meets c i m s (q .hole)) (here .best)
-    fills-meets = record { low = fills .better .low; hit = λ h. let z = fills .better .hit h in (z .0, done (inr (x, is-next, z .1))) }
+  module _ (x : Instr) (is-next : instrAt c (s .position) ≡ some x) (here : Reached) (fills : Filled c i m s x q here) where
+    pub fills-meets : Better (q .from) (Meets c i m s (q .hole)) (q .met) (here .met)
+    fills-meets = better-as (λ j z. done (inr (x, is-next, z))) (fills .better)
 
-    -- something found at a time
-    pub reach-found : (best : ℕ) → Better (q .from) (here .best) (Meets c i m s (q .hole)) best → Better (q .from) (q .best) (Meets c i m s (q .hole)) best
-    reach-found best found = better-on reach-now (better-on fills-meets found)
+    -- at a time
+    pub tried-meets : {p p' : Met} (t : ℕ) → Better (q .from) (Through c i m s x t (q .hole)) p p' → Better (q .from) (Meets c i m s (q .hole)) p p'
+    tried-meets t b = better-as (λ j z. by {m = m} {s = s} x t (z .0) is-next (effect-time (effect x m t s (z .0) (z .1))) (z .1) (z .2)) b
+
+    -- by its own message
+    pub owns-meets : {p p' : Met} → Better (q .from) (λ j. Owns c i m s x (q .hole) j) p p' → Better (q .from) (Meets c i m s (q .hole)) p p'
+    owns-meets b = better-as (λ j w. own x (w .message) (w .after) is-next (w .is-own) (w .fewer) (w .does) (w .goes-on)) b
 
     -- after the last time, and the own message
-    pub reach-all : m .count ≤ 16 → (p : Tried) (t : ℕ) → Better (q .from) (here .best) (Meets c i m s (q .hole)) (p .best) → Covers (p .cares .of) (here .cares .of) → Missed c i m s x q p t → 16 < t
-        → (r : Reached) → Found (q .from) (p .best) (λ y j. Owns c i m y x (q .hole) j) s r → Covers (r .cares .of) (p .cares .of)
-        → Found (q .from) (q .best) (λ y j. Meets c i m y (q .hole) j) s r
-    reach-all room p t found covered known over r owns covers =
-        record { better = reach-found (r .best) (better-on found owns-meets); barren = barren }
-      where
-        owns-meets : Better (q .from) (p .best) (Meets c i m s (q .hole)) (r .best)
-        owns-meets = record { low = owns .better .low; hit = λ h. let z = owns .better .hit h in let w = z .1 in (z .0, own x (w .message) (w .after) is-next (w .is-own) (w .fewer) (w .does) (w .goes-on)) }
+    module _ (unkept : Unkept s x q) (room : m .count ≤ 16) (p : Tried) (t : ℕ) (tried : Better (q .from) (Meets c i m s (q .hole)) (here .met) (p .met)) (covered : Covers (p .cares .of) (here .cares .of)) (known : Missed c i m s x q p 0 t) (over : 16 < t)
+        (r : Reached) (owns : Found (q .from) (p .met) (λ y j. Owns c i m y x (q .hole) j) s r) (covers : Covers (r .cares .of) (p .cares .of))
+        (last : Sought) (is-last : last ≡ record { hole = q .hole; from = q .from; met = r .met }) (asked : Cares) (asks : Asks x m s last (asked .of) × FillsSame x s last (asked .of))
+        (k : Cares) (both : Covers (k .of) (r .cares .of) × Covers (k .of) (asked .of)) where
+      pub reach-better : Better (q .from) (Meets c i m s (q .hole)) (q .met) (r .met)
+      reach-better = better-on fills-meets (better-on tried (owns-meets (owns .better)))
 
-        late : (k : ℕ) → k < r .best → k < p .best
-        late k b = let a = owns .better .low in omega arith
+      sought-last : (j : ℕ) → Unmet (q .from) (r .met) j → Seeks last j
+      sought-last j u = subst (λ (o : Sought). Seeks o j) (sym is-last) u
 
-        same-next : (s' : Thread) → Rests (r .cares .of) s s' → (y : Instr) → instrAt c (s' .position) ≡ some y → x ≡ y
-        same-next s' rests y g = Option·some-injective x y (sym is-next ∙ ap (instrAt c) (rests .under .same-position) ∙ g)
+      same-hole : q .hole ≡ last .hole
+      same-hole = ap (λ (o : Sought). o .hole) (sym is-last)
 
-        barren : (s' : Thread) → Rests (r .cares .of) s s' → (k : ℕ) → q .from ≤ k → k < r .best → Meets c i m s' (q .hole) k → ⊥
-        barren s' rests k a b (done (inl z)) =
-            let l2 = found .low in
-            let l3 = fills .better .low in
-            let l = late k b in
-            kept .least k a (omega arith) (z .0, rests .under .same-promises ∙ z .1)
-        barren s' rests k a b (done (inr (y, g, w))) =
-            let l2 = found .low in
-            let l = late k b in
-            fills .barren s' (rests-less covered (rests-less covers rests)) k a (omega arith)
-            (subst (λ (z : Instr). Fills c i z (q .hole) k m s') (sym (same-next s' rests y g)) w)
-        barren s' rests k a b (by y u v g tl e w) =
-            known .missed u s' v (omega arith) (rests-less covers rests) (subst (λ (z : Instr). execute z m u s' ≡ next v) (sym (same-next s' rests y g)) e) k a (late k b) w
-        barren s' rests k a b (own y w v g gw few e rest) =
-            let z = same-next s' rests y g in
-            owns .barren s' rests k a b
-            (record {
-              message = w;
-              after = v;
-              is-own = ap (messageOf i s') z ∙ gw;
-              fewer = few;
-              does = subst (λ (o : Instr). execute o (append m w) ((append m w) .count) (addPromise (append m w) s') ≡ next v) (sym z) e;
-              goes-on = rest;
-            })
+      same-next : (s' : Thread) → Rests (k .of) s s' → (y : Instr) → instrAt c (s' .position) ≡ some y → x ≡ y
+      same-next s' rests y g = Option·some-injective x y (sym is-next ∙ ap (instrAt c) (rests .under .same-position) ∙ g)
+
+      -- a thread that fills the hole by a number that is sought stores the same
+      repeats : (s' : Thread) → Rests (k .of) s s' → (j : ℕ) → Unmet (q .from) (r .met) j → Fills c i x (q .hole) j m s' → Repeats x s s'
+      repeats s' rests j u f how a d is = (place, elim (ℕ-discrete (valueOf s d) (valueOf s' d)) [ yes e ↦ e | no n ↦ absurd (unsought n) ])
+        where
+          agree : Agreeing (asked .of) s s'
+          agree = rests-less (both .1) rests .agreeing
+
+          out : T (has (s .promises) (last .hole))
+          out = subst (λ (h : ℕ). T (has (s .promises) h)) same-hole (subst (λ (n : ℕ). T (has n (q .hole))) (sym (rests .under .same-promises)) (fills-out f))
+
+          mine : storeMessage i a d s' ≡ f .message
+          mine = Option·some-injective _ _ (sym (ap (messageOf i s') is) ∙ f .is-own)
+
+          byte : valueOf s' d < 256
+          byte = subst (λ (w : Message). w .value < 256) (sym mine) (f .byte)
+
+          number : Seeks last (256 * address (valueOf s' a) + valueOf s' d)
+          number = subst (Seeks last) (sym (subst (λ (w : Message). 256 * w .location + w .value ≡ j) (sym mine) (f .number))) (sought-last j u)
+
+          place : address (valueOf s a) ≡ address (valueOf s' a)
+          place = ⊎-elim (λ here. here .place) (λ there. absurd (there .unsought out (valueOf s' d) byte number)) (asks .0 .store how a d is s' agree)
+
+          unsought : (valueOf s d ≡ valueOf s' d → ⊥) → ⊥
+          unsought n =
+              let z = asks .1 .number how a d is out in
+              let ag = z .1 .1 s' agree in
+              z .1 .0 .missed (λ t. n (z .1 .0 .found t (valueOf s' d) ag)) (valueOf s' d) byte ag (subst (λ (l : ℕ). Seeks last (256 * l + valueOf s' d)) (sym place) number)
+
+      barren : (s' : Thread) → Rests (k .of) s s' → (j : ℕ) → Unmet (q .from) (r .met) j → Meets c i m s' (q .hole) j → ⊥
+      barren s' rests j u (done (inl z)) = unkept .outstanding (z .0) (rests .under .same-promises ∙ z .2)
+      barren s' rests j u (done (inr (y, g, w))) =
+          let f = subst (λ (z : Instr). Fills c i z (q .hole) j m s') (sym (same-next s' rests y g)) w in
+          let less = rests-less (both .0) rests in
+          fills .barren s' (rests-less covered (rests-less covers less)) (repeats s' rests j u f) j (narrows tried j (narrows (owns .better) j u)) f
+      barren s' rests j u (by y v z g tl e w) =
+          let does = subst (λ (o : Instr). execute o m v s' ≡ next z) (sym (same-next s' rests y g)) e in
+          known .missed v (omega arith) (omega arith) s' z (rests-less covers (rests-less (both .0) rests)) (asked-likewise x m s s' last (asked .of) (asks .0) (rests-less (both .1) rests) v z does) does j (narrows (owns .better) j u) w
+      barren s' rests j u (own y w v g gw few e rest) =
+          let z = same-next s' rests y g in
+          owns .barren s' (rests-less (both .0) rests) j u
+          (record {
+            message = w;
+            after = v;
+            is-own = ap (messageOf i s') z ∙ gw;
+            fewer = few;
+            does = subst (λ (o : Instr). execute o (append m w) ((append m w) .count) (addPromise (append m w) s') ≡ next v) (sym z) e;
+            goes-on = rest;
+          })
+
+      pub reach-all : Found (q .from) (q .met) (λ y j. Meets c i m y (q .hole) j) s (record { met = r .met; cares = k })
+      reach-all = record { better = reach-better; barren = barren }
 
 -- ---- the instructions before it
-module _ (c : Code) (i : ℕ) (m : Memory) (s y : Thread) (o : Ran c s y) (h from best : ℕ) where
-  straight-better : (n : ℕ) → Better from best (Meets c i m y h) n → Better from best (Meets c i m s h) n
-  straight-better n b = record { low = b .low; hit = λ l. let z = b .hit l in (z .0, leads-there (o .leads) i h n (z .1)) }
+module _ (c : Code) (i : ℕ) (m : Memory) (s y : Thread) (o : Ran c s y) (q : Sought) where
+  straight-better : {p : Met} → Better (q .from) (Meets c i m y (q .hole)) (q .met) p → Better (q .from) (Meets c i m s (q .hole)) (q .met) p
+  straight-better b = better-as (λ j w. leads-there (o .leads) i (q .hole) j w) b
 
-  -- nothing less is sought
-  pub straight-now : (n : ℕ) → Better from best (Meets c i m y h) n → n ≤ from → (k : Cares) → Found from best (λ v j. Meets c i m v h j) s (record { best = n; cares = k })
-  straight-now n b low k = record { better = straight-better n b; barren = λ s' rests j a b w. omega arith }
+  -- an empty promise set is there, and is sought
+  pub straight-kept : (q .hole ≡ 0) × (y .promises ≡ 0) → (p : Met) → Emptied q p → (k : Cares) → Found (q .from) (q .met) (λ v j. Meets c i m v (q .hole) j) s (record { met = p; cares = k })
+  straight-kept empty p e k =
+      record {
+        better = straight-better (emptied-better q p e (done (inl (empty .0, refl, empty .1))));
+        barren = λ s' rests j u w. emptied-now q p e (subst (Unmet (q .from) p) (only-zero c i (q .hole) j m s' (empty .0) w) u);
+      }
 
-  pub straight-found : (r : Reached) → Found from best (λ v j. Meets c i m v h j) y r → (k : Cares)
+  -- nothing is sought any more
+  pub straight-ended : (r : Reached) → Found (q .from) (q .met) (λ v j. Meets c i m v (q .hole) j) y r → ((n : ℕ) → Unmet (q .from) (r .met) n → ⊥) → Found (q .from) (q .met) (λ v j. Meets c i m v (q .hole) j) s r
+  straight-ended r f over = record { better = straight-better (f .better); barren = λ s' rests j u w. over j u }
+
+  pub straight-found : (r : Reached) → Found (q .from) (q .met) (λ v j. Meets c i m v (q .hole) j) y r → (k : Cares)
       → ((s' v : Thread) → Rests (k .of) s s' → Leads c s v → Halts c v → (v' : Thread) × (Leads c s' v' × Rests (r .cares .of) v v'))
-      → Found from best (λ v j. Meets c i m v h j) s (record { best = r .best; cares = k })
+      → Found (q .from) (q .met) (λ v j. Meets c i m v (q .hole) j) s (record { met = r .met; cares = k })
   straight-found r f k back =
       record {
-        better = straight-better (r .best) (f .better);
-        barren = λ s' rests j a b w. let z = back s' y rests (o .leads) (o .halts) in f .barren (z .0) (z .1 .1) j a b (leads-back (z .1 .0) i h j w);
+        better = straight-better (f .better);
+        barren = λ s' rests j u w. let z = back s' y rests (o .leads) (o .halts) in f .barren (z .0) (z .1 .1) j u (leads-back (z .1 .0) i (q .hole) j w);
       }
 
 -- ---- each instruction moves the position on, so the search ends
 module _ (c : Code) (m : Memory) (s : Thread) (x : Instr) (w : Trying c m s x) where
-  further : (m' : Memory) (t : ℕ) (s₀ s' : Thread) → s₀ .position ≡ s .position → execute x m' t s₀ ≡ next s' → 4 * (20 - s' .position) + 3 < 4 * (20 - s .position) + 1
+  further : (m' : Memory) (t : ℕ) (s₀ s' : Thread) → s₀ .position ≡ s .position → execute x m' t s₀ ≡ next s' → 5 * (20 - s' .position) + 4 < 5 * (20 - s .position) + 1
   further m' t s₀ s' p e =
       let h = moves (effect x m' t s₀ s' e) in
       let l = there c (s .position) x (w .is-next) .0 in
       let short = w .ready .code-ok .short in
       omega arith
 
-  pub further-by : (t : ℕ) (y : Thread) → execute x m t s ≡ next y → 4 * (20 - y .position) + 3 < 4 * (20 - s .position) + 1
+  pub further-by : (t : ℕ) (y : Thread) → execute x m t s ≡ next y → 5 * (20 - y .position) + 4 < 5 * (20 - s .position) + 1
   further-by t y e = further m t s y refl e
 
-  pub further-own : (k : StoreMode) (a d : Operand) → x ≡ Store k a d → (i : ℕ) (u : Ruled) → u ≡ ruled s (ownStore k a d m i s) → u .answer ≡ Done → 4 * (20 - u .thread .position) + 3 < 4 * (20 - s .position) + 1
+  pub further-own : (k : StoreMode) (a d : Operand) → x ≡ Store k a d → (i : ℕ) (u : Ruled) → u ≡ ruled s (ownStore k a d m i s) → u .answer ≡ Done → 5 * (20 - u .thread .position) + 4 < 5 * (20 - s .position) + 1
   unfolding ownStore
   further-own k a d is i u e z =
       let m' = append m (storeMessage i a d s) in

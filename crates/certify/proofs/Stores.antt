@@ -22,7 +22,7 @@ pub crowds : (n p : ℕ) (b : Bool) → b ≡ ltb n p → b ≡ true → n < p
 crowds n p b e z = ltb→lt n p (subst T (sym (sym e ∙ z)) tt)
 
 pub aim-fits : (c : Code) (i h k : ℕ) (m : Memory) (s : Thread) → Aim c i h k m s → ones (s .promises) ≤ storesFrom c (s .position)
-aim-fits c i h k m s (inl p) = let z = ones-none in let f = ap ones (p .1) in omega arith
+aim-fits c i h k m s (inl p) = let z = ones-none in let f = ap ones (p .2) in omega arith
 aim-fits c i h k m s (inr (x, g, f)) =
     let m' = fill m h (f .message) in
     let q = onward-inv (certified c i m') (execute x m' h s) (f .keeps) in

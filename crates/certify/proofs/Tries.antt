@@ -42,7 +42,7 @@ module _ (x : Instr) (t : ℕ) (p : Tried) (sub : Reached) where
   pub noted-load : (tries : ℕ) (k : LoadMode) (j : ℕ) (a b : Operand) → x ≡ Load k j a b → (n : ℕ) → n ≡ careOf (sub .cares .of) j
       → (f : Cares) → ((s s' : Thread) → Agreeing (f .of) s s' → AgreeingBut (sub .cares .of) j s s')
       → (g : Cares) → Covers (g .of) (f .of) × Covers (g .of) (p .cares .of)
-      → Noted x t p sub (record { best = sub .best; tries = tries; cares = g; counted = set (p .counted) t n })
+      → Noted x t p sub (record { met = sub .met; tries = tries; cares = g; counted = set (p .counted) t n })
   noted-load tries k j a b is n ne f forgets g both =
       record {
         load = λ k' j' a' b' is'. let e = load-same k k' j j' a a' b b' (sym is ∙ is') .0 in (refl, ap (set (p .counted) t) (ne ∙ ap (careOf (sub .cares .of)) e), λ s s' h. subst (λ (i : ℕ). AgreeingBut (sub .cares .of) i s s') e (forgets s s' (both .0 .agreeing s s' h)));
@@ -53,7 +53,7 @@ module _ (x : Instr) (t : ℕ) (p : Tried) (sub : Reached) where
   -- of a store: all cares
   pub noted-store : (tries : ℕ) (k : StoreMode) (a d : Operand) → x ≡ Store k a d
       → (g : Cares) → Covers (g .of) (sub .cares .of) × Covers (g .of) (p .cares .of)
-      → Noted x t p sub (record { best = sub .best; tries = tries; cares = g; counted = p .counted })
+      → Noted x t p sub (record { met = sub .met; tries = tries; cares = g; counted = p .counted })
   noted-store tries k a d is g both =
       record {
         load = λ k' j' a' b' is'. absurd (load-not-store k' k j' a' a b' d (sym is' ∙ is));

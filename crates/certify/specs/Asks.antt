@@ -2,12 +2,14 @@
 -- Assumes nothing.
 use mathlib.Core.Path.{_≡_}
 use mathlib.Core.Logic.{_⊎_}
+use mathlib.Core.Bool.{cond}
 use mathlib.Core.List.{List}
 use Prim.Native.Nat.{ℕ, _+_, _*_, _≤_, _<_}
-use lib.Dec.{T}
+use lib.Dec.{T, leb, ltb}
 use Rattle.machine.specs.State.{messageAt, has}
 use Rattle.machine.specs.Rules.{valueOf, address}
 use Rattle.cares.specs.Cares.{Agrees, Agreeing}
+pub use Rattle.certify.specs.declared.Met.{Met}
 pub use Rattle.certify.specs.declared.Sought.{Sought}
 use Rattle.certify.specs.Below.{Operand, LoadMode, StoreMode, Instr, Load, Store, Memory, Thread}
 
@@ -15,9 +17,17 @@ use Rattle.certify.specs.Below.{Operand, LoadMode, StoreMode, Instr, Loa
 abbrev pub OtherValues : Memory → ℕ → ℕ → ℕ → ℕ → ℕ → Type 0
 OtherValues m p l v end r = (y u : ℕ) → Agrees r v y → T (has p u) → u < end → u ≤ m .count → (messageAt m u) .location ≡ l → (messageAt m u) .value ≡ y → v ≡ y
 
+-- the two least numbers met, with n
+abbrev pub meeting : ℕ → Met → Met
+meeting n p = cond (leb (p .least) n) (record { least = p .least; second = n }) (record { least = n; second = cond (ltb (p .least) (p .second)) (p .least) (p .second) })
+
+-- n is from `from` on, and below the second of the numbers met and not the least
+abbrev pub Unmet : ℕ → Met → ℕ → Type 0
+Unmet from p n = (from ≤ n) × (n < p .second) × (n ≡ p .least → ⊥)
+
 -- the number is sought
 abbrev pub Seeks : Sought → ℕ → Type 0
-Seeks q n = (q .from ≤ n) × (n < q .best)
+Seeks q n = Unmet (q .from) (q .met) n
 
 -- a byte y that agrees with v by the care k makes a store to l one of a number that is sought only if v does, and is v then
 pub record Unsought (q : Sought) (l v k : ℕ) : Type 0 where
@@ -56,10 +66,18 @@ pub record FillsSame (x : Instr) (s : Thread) (q : Sought) (cares : List ℕ) : 
   pub place : (k : StoreMode) (a d : Operand) → x ≡ Store k a d → T (has (s .promises) (q .hole)) → valueOf s d < 256 → Seeks q (256 * address (valueOf s a) + valueOf s d)
       → (s' : Thread) → Agreeing cares s s' → address (valueOf s a) ≡ address (valueOf s' a)
 
--- the instruction is a store, and stores the same
-pub record Settles (x : Instr) (s : Thread) (cares : List ℕ) : Type 0 where
+-- the other thread loads from the same location; or stores to it, and the same value if it fulfils a promise
+pub record Likewise (x : Instr) (m : Memory) (s s' : Thread) : Type 0 where
+  pub load : (k : LoadMode) (r : ℕ) (a b : Operand) → x ≡ Load k r a b → (address (valueOf s a) ≡ address (valueOf s' a)) × (address (valueOf s b) ≡ address (valueOf s' b))
+  pub store : (k : StoreMode) (a d : Operand) → x ≡ Store k a d → StoresSame m s a d s'
+
+-- the other thread, if the instruction is a store, stores the same
+abbrev pub Repeats : Instr → Thread → Thread → Type 0
+Repeats x s s' = (k : StoreMode) (a d : Operand) → x ≡ Store k a d → (address (valueOf s a) ≡ address (valueOf s' a)) × (valueOf s d ≡ valueOf s' d)
+
+-- the instruction is a store
+pub record Stores (x : Instr) : Type 0 where
   pub mode : StoreMode
   pub a : Operand
   pub d : Operand
   pub is-store : x ≡ Store mode a d
-  pub same : (s' : Thread) → Agreeing cares s s' → (address (valueOf s a) ≡ address (valueOf s' a)) × (valueOf s d ≡ valueOf s' d)

@@ -39,11 +39,12 @@ fn unsought(l: u8, v: u8, q: Sought) -> u16
 {
     let base = 256 * l as u16;
     let number = base + v as u16;
-    if q.best <= number {
-        if q.best <= base {
+    let top = q.met.second;
+    if top <= number {
+        if top <= base {
             return 0;
         }
-        return 512 + (q.best - base);
+        return 512 + (top - base);
     }
     if number < q.from {
         let least = q.from - base;
@@ -78,11 +79,12 @@ fn sought_at(p: u16, q: Sought) -> u8
     if !has(p, q.hole) {
         return 16;
     }
-    if q.best <= q.from {
+    let top = q.met.second;
+    if top <= q.from {
         return 16;
     }
     let first = q.from / 256;
-    if first != (q.best - 1) / 256 {
+    if first != (top - 1) / 256 {
         return 17;
     }
     if 16 <= first {

@@ -8,13 +8,16 @@ mod window;
 
 pub use checked::certify;
 ghost use mathlib.Core.Path.{_≡_};
+ghost use mathlib.Core.Bool.{true, false};
+ghost use Prim.Native.Nat.{ℕ};
 ghost use Rattle.machine.specs.Answers.{storeMessage};
 ghost use Rattle.certify.specs.Certify.{certified};
+ghost use Rattle.certify.specs.Asks.{Unmet, Seeks, meeting};
 ghost use Rattle.certify.specs.Answers.{Ready};
 use machine::Memory;
 use machine::Message;
 use machine::Thread;
-use reach::least_reached;
+use reach::two_reached;
 use rules::operands::address;
 use rules::operands::value_of;
 use source::Code;
@@ -27,35 +30,94 @@ pub enum Certified {
     Refused(u8),
 }
 
-// What runs are searched for: where hole is 0, an empty promise set; else a store that fills the hole at that time. Sought are numbers
-// from `from` on and below best.
+// The two least numbers that runs have met; where there are fewer, the bound below which numbers are sought.
+pub struct Met {
+    pub least: u16,
+    pub second: u16,
+}
+
+impl Met {
+    // With n met too.
+    pub fn with(self, n: u16) -> Met
+        ensures { λ r. ⌜ r ≡ meeting n self ⌝ }
+    {
+        if self.least <= n {
+            return Met {
+                least: self.least,
+                second: n,
+            };
+        }
+        if self.least < self.second {
+            return Met {
+                least: n,
+                second: self.least,
+            };
+        }
+        Met {
+            least: n,
+            second: self.second,
+        }
+    }
+
+    // No number from `from` on is sought any more.
+    pub fn ended(self, from: u16) -> bool
+        ensures { λ r. ⌜ (r ≡ true → (n : ℕ) → Unmet from self n → ⊥) ⌝ }
+    {
+        if self.second <= from {
+            return true;
+        }
+        if self.least != from {
+            return false;
+        }
+        self.second - 1 <= from
+    }
+}
+
+// What runs are searched for: where hole is 0, an empty promise set, which is number 0; else a store that fills the hole at that time. Sought
+// are numbers from `from` on that are below the second of those met and not the least.
 pub struct Sought {
     pub hole: u8,
     pub from: u16,
-    pub best: u16,
+    pub met: Met,
 }
 
 impl Sought {
-    // An empty promise set: one number is enough.
+    // An empty promise set.
     pub fn certified() -> Sought
-        ensures { λ r. ⌜ r ≡ record { hole = 0; from = 0; best = 1 } ⌝ }
+        ensures { λ r. ⌜ r ≡ record { hole = 0; from = 0; met = record { least = 1; second = 1 } } ⌝ }
     {
         Sought {
             hole: 0,
             from: 0,
-            best: 1,
+            met: Met {
+                least: 1,
+                second: 1,
+            },
         }
     }
 
-    // The same, below another number.
-    pub fn below(self, best: u16) -> Sought
-        ensures { λ r. ⌜ r ≡ record { hole = self .hole; from = self .from; best = best } ⌝ }
+    // The same, after these numbers were met.
+    pub fn after(self, met: Met) -> Sought
+        ensures { λ r. ⌜ r ≡ record { hole = self .hole; from = self .from; met = met } ⌝ }
     {
         Sought {
             hole: self.hole,
             from: self.from,
-            best: best,
+            met: met,
         }
+    }
+
+    // The number n is sought.
+    pub fn seeks(self, n: u16) -> bool
+        ensures { λ r. ⌜ (r ≡ true → Seeks self n) × (r ≡ false → Seeks self n → ⊥) ⌝ }
+    {
+        if n < self.from {
+            return false;
+        }
+        if self.met.second <= n {
+            return false;
+        }
+        n != self.met.least
     }
 }
 
@@ -75,5 +137,5 @@ pub fn is_certified(c: Code, i: u8, m: Memory, s: Thread) -> bool
     requires { ⌜ Ready c m s ⌝ }
     ensures { λ r. ⌜ r ≡ certified c i m s ⌝ }
 {
-    least_reached(c, i, m, s, Sought::certified()) == 0
+    two_reached(c, i, m, s, Sought::certified()).least == 0
 }

@@ -1,16 +1,16 @@
 // What the runs of a thread alone come to: one search of them, times ascending, for all that asks; and what a failure rests on.
 ghost use mathlib.Core.Path.{_≡_};
-ghost use mathlib.Core.Bool.{true};
+ghost use mathlib.Core.Bool.{true, false};
 ghost use Prim.Native.Nat.{_+_, _≤_, _<_};
 ghost use lib.Count.{ones};
-ghost use lib.Dec.{T, ltb};
+ghost use lib.Dec.{ltb};
+ghost use lib.ListN.{replicate};
 ghost use Rattle.source.specs.Counts.{storesFrom};
-ghost use Rattle.machine.specs.Rules.{execute};
 ghost use Rattle.cares.specs.Cares.{Covers};
-ghost use Rattle.certify.specs.Certify.{onward, certified};
 ghost use Rattle.certify.specs.Answers.{Ready, Trying};
-ghost use Rattle.certify.specs.Asks.{Asks, FillsSame, Settles};
-ghost use Rattle.certify.specs.Sought.{fill, Fills, Least, Meets, Owns, Found, Appends, Hopeless, Missed, Went, Noted};
+ghost use Rattle.certify.specs.Asks.{Stores};
+ghost use Rattle.certify.specs.Sought.{fill, Meets, Owns, Emptied, Twice, Found, Unkept, Filled, Keeps, Appends, Hopeless, Knows, Went, Noted};
+use crate::Met;
 use crate::Sought;
 use crate::asks::asks;
 use crate::own_message;
@@ -35,32 +35,19 @@ use source::Code;
 use source::Instr;
 use stores::below_time;
 
-// The least number met, or the bound below which none was; and what it rests on that none below it is met.
+// The two least numbers met; and what it rests on that no other is met that is sought.
 pub struct Reached {
-    pub best: u16,
+    pub met: Met,
     pub cares: Cares,
 }
 
-// After some tries of an instruction: the least number met; how many were made, two for more; what they rest on; and for each time at which a
-// load was tried how much of what it left in its register counted, 3 for the others.
+// After some tries of an instruction: the numbers met; how many tries were made, two for more; what they rest on; and for each time at which
+// a load was tried how much of what it left in its register counted, 3 for the others.
 pub struct Tried {
-    pub best: u16,
+    pub met: Met,
     pub tries: u8,
     pub cares: Cares,
     pub counted: [u16; 17],
-}
-
-// The number v, if it is sought.
-fn lowered(v: u16, q: Sought) -> u16
-    ensures { λ r. ⌜ Least (q .from) (q .best) (λ k. v ≡ k) r ⌝ }
-{
-    if v < q.from {
-        return q.best;
-    }
-    if v < q.best {
-        return v;
-    }
-    q.best
 }
 
 // More promises are outstanding than stores are left at position n and after it.
@@ -71,20 +58,25 @@ fn crowded(c: Code, n: u8, s: Thread) -> bool
     fewer_stores(c, n, u16::count_ones(s.promises))
 }
 
-// Without a hole an empty promise set is sought, and any number will do for it.
-fn kept(s: Thread, q: Sought) -> u16
-    ensures { λ r. ⌜ Least (q .from) (q .best) (λ k. (q .hole ≡ 0) × (s .promises ≡ 0)) r ⌝ }
+// An empty promise set is sought, and here it is.
+fn kept(s: Thread, q: Sought) -> bool
+    ensures { λ r. ⌜ (r ≡ true → (q .hole ≡ 0) × (s .promises ≡ 0)) × (r ≡ false → q .hole ≡ 0 → s .promises ≡ 0 → ⊥) ⌝ }
 {
     if q.hole != 0 {
-        return q.best;
+        return false;
     }
-    if !is_empty(s.promises) {
-        return q.best;
+    is_empty(s.promises)
+}
+
+// What is met where an empty promise set is.
+fn emptied(q: Sought) -> Met
+    ensures { λ r. ⌜ Emptied q r ⌝ }
+{
+    let met = q.met;
+    if q.seeks(0) {
+        return met.with(0);
     }
-    if q.from < q.best {
-        return q.from;
-    }
-    q.best
+    met
 }
 
 // The memory with w in place of the message at time h.
@@ -115,6 +107,20 @@ fn hopeless(c: Code, m: Memory, s: Thread, x: Instr, t: u8, p: Tried) -> bool
     false
 }
 
+// Before the first try of an instruction: what is known otherwise.
+fn untried(known: Reached) -> Tried
+    ensures { λ r. ⌜ r ≡ record { met = known .met; tries = 0; cares = known .cares; counted = replicate 17 3 } ⌝ }
+{
+    let met = known.met;
+    let cares = known.cares;
+    Tried {
+        met: met,
+        tries: 0,
+        cares: cares,
+        counted: [3; 17],
+    }
+}
+
 // What a try at time t adds to what is known.
 fn noted(x: Instr, t: u8, p: Tried, sub: Reached) -> Tried
     requires { ⌜ t ≤ 16 ⌝ }
@@ -122,19 +128,20 @@ fn noted(x: Instr, t: u8, p: Tried, sub: Reached) -> Tried
 {
     let before = p.cares;
     let now = sub.cares;
+    let met = sub.met;
     let mut counted = p.counted;
     match x {
         Instr::Load(_, r, _, _) => {
             counted[t as usize] = now.of_register(r);
             Tried {
-                best: sub.best,
+                met: met,
                 tries: smaller(p.tries, 1) + 1,
                 cares: now.forgetting(r).and(before),
                 counted: counted,
             }
         }
         Instr::Store(_, _, _) => Tried {
-            best: sub.best,
+            met: met,
             tries: smaller(p.tries, 1) + 1,
             cares: now.and(before),
             counted: counted,
@@ -164,151 +171,149 @@ fn appends(c: Code, m: Memory, s: Thread, x: Instr) -> bool
     }
 }
 
-// The least number that a run from here comes to, if it is sought.
-pub fn least_reached(c: Code, i: u8, m: Memory, s: Thread, q: Sought) -> u16
+// The two least numbers that runs from here come to, of those that are sought.
+pub fn two_reached(c: Code, i: u8, m: Memory, s: Thread, q: Sought) -> Met
     requires { ⌜ Ready c m s ⌝ }
-    ensures { λ r. ⌜ Least (q .from) (q .best) (Meets c i m s (q .hole)) r ⌝ }
+    ensures { λ r. ⌜ Twice (q .from) (q .met) (Meets c i m s (q .hole)) r ⌝ }
 {
-    search_runs(c, i, m, s, q).best
+    search_runs(c, i, m, s, q).met
 }
 
-// The same, and what it rests on that there is none below it.
+// The same, and what it rests on that there is no other.
 fn search_runs(c: Code, i: u8, m: Memory, s: Thread, q: Sought) -> Reached
     requires { ⌜ Ready c m s ⌝ }
-    ensures { λ r. ⌜ Found (q .from) (q .best) (λ y k. Meets c i m y (q .hole) k) s r ⌝ }
+    ensures { λ r. ⌜ Found (q .from) (q .met) (λ y k. Meets c i m y (q .hole) k) s r ⌝ }
 {
     let nothing = Cares { of: [0; 8] };
     let y = straight(c, s);
-    let now = kept(y, q);
-    if now <= q.from {
+    if kept(y, q) {
         return Reached {
-            best: now,
+            met: emptied(q),
             cares: nothing,
         };
     }
     if c.count <= y.position {
+        let met = q.met;
         return Reached {
-            best: now,
+            met: met,
             cares: before_straight(c, s, nothing),
         };
     }
-    let x = c.instr_at(y.position);
-    let less = q.below(now);
-    let appending = appends(c, m, y, x);
-    let here = filled(c, i, m, y, x, less, asks(x, m, y, less, appending));
-    let mut t = earliest(x, m, y);
-    let asked = here.cares;
-    let mut r = Tried {
-        best: here.best,
-        tries: 0,
-        cares: asked,
-        counted: [3; 17],
-    };
-    while t <= 16 {
-        r = try_at(c, i, m, y, x, t, r, q);
-        if r.best <= q.from {
-            return Reached {
-                best: r.best,
-                cares: nothing,
-            };
-        }
-        t = following(x, m, y, t);
+    let r = search_at(c, i, m, y, c.instr_at(y.position), q);
+    let met = r.met;
+    if met.ended(q.from) {
+        return r;
     }
-    let own = own_reached(c, i, m, y, x, q.below(r.best), r.cares, appending);
-    let rests = own.cares;
+    let rests = r.cares;
     Reached {
-        best: own.best,
+        met: met,
         cares: before_straight(c, s, rests),
     }
 }
 
-// The number of a store that fills the hole, if there is one and it is sought. Where the hole is the only promise, nothing is left to keep.
-fn filled(c: Code, i: u8, m: Memory, s: Thread, x: Instr, q: Sought, k: Cares) -> Reached
-    requires { ⌜ Trying c m s x × (Asks x m s q (k .of) × FillsSame x s q (k .of)) ⌝ }
-    ensures { λ r. ⌜ Found (q .from) (q .best) (λ y j. Fills c i x (q .hole) j m y) s r × Covers (r .cares .of) (k .of) ⌝ }
+// The same for a thread at its next load or store, x: times ascending, then the store's own message. What the tries themselves rest on is
+// worked out last: most searches that succeed never ask for it.
+fn search_at(c: Code, i: u8, m: Memory, s: Thread, x: Instr, q: Sought) -> Reached
+    requires { ⌜ Trying c m s x × Unkept s x q ⌝ }
+    ensures { λ r. ⌜ Found (q .from) (q .met) (λ y k. Meets c i m y (q .hole) k) s r ⌝ }
 {
+    let mut t = earliest(x, m, s);
+    let mut r = untried(filled(c, i, m, s, x, q));
+    while t <= 16 {
+        r = try_at(c, i, m, s, x, t, r, q);
+        let met = r.met;
+        if met.ended(q.from) {
+            let rests = r.cares;
+            return Reached {
+                met: met,
+                cares: rests,
+            };
+        }
+        t = following(x, m, s, t);
+    }
+    let appending = appends(c, m, s, x);
+    let own = own_reached(c, i, m, s, x, q.after(r.met), r.cares, appending);
+    let met = own.met;
+    if met.ended(q.from) {
+        return own;
+    }
+    let rests = own.cares;
+    Reached {
+        met: met,
+        cares: rests.and(asks(x, m, s, q.after(met), appending)),
+    }
+}
+
+// The number of a store that fills the hole, if there is one and it is sought. Where the hole is the only promise, nothing is left to keep.
+fn filled(c: Code, i: u8, m: Memory, s: Thread, x: Instr, q: Sought) -> Reached
+    requires { ⌜ Trying c m s x ⌝ }
+    ensures { λ r. ⌜ Filled c i m s x q r ⌝ }
+{
+    let met = q.met;
+    let none = Reached {
+        met: met,
+        cares: Cares { of: [0; 8] },
+    };
     if !has(s.promises, q.hole) {
-        return Reached {
-            best: q.best,
-            cares: k,
-        };
+        return none;
     }
     match x {
         Instr::Store(how, a, d) => {
             let w = own_message(i, a, d, s);
-            let number = lowered(256 * w.location as u16 + w.value as u16, q);
-            if q.best <= number {
-                return Reached {
-                    best: q.best,
-                    cares: k,
-                };
+            let number = 256 * w.location as u16 + w.value as u16;
+            if !q.seeks(number) {
+                return none;
             }
+            let here = Reached {
+                met: met.with(number),
+                cares: Cares { of: [0; 8] },
+            };
             if u16::count_ones(s.promises) == 1 {
                 if below_time(how, q.hole, w.location, view_of(s, a), view_of(s, d), s) {
-                    return Reached {
-                        best: number,
-                        cares: k,
-                    };
+                    return here;
                 }
-                return Reached {
-                    best: q.best,
-                    cares: k,
-                };
+                return none;
             }
-            let then = keeps(c, i, fill(m, q.hole, w), s, x, q.hole, k);
-            if then.best == 0 {
-                return Reached {
-                    best: number,
-                    cares: k,
-                };
+            let then = keeps(c, i, fill(m, q.hole, w), s, x, q.hole);
+            if then.met.least == 0 {
+                return here;
             }
             let rests = then.cares;
             Reached {
-                best: q.best,
+                met: met,
                 cares: rests,
             }
         }
-        Instr::Load(_, _, _, _) => Reached {
-            best: q.best,
-            cares: k,
-        },
-        Instr::Compute(_, _, _, _) => Reached {
-            best: q.best,
-            cares: k,
-        },
-        Instr::Branch(_, _, _) => Reached {
-            best: q.best,
-            cares: k,
-        },
-        Instr::Fence(_) => Reached {
-            best: q.best,
-            cares: k,
-        },
+        Instr::Load(_, _, _, _) => none,
+        Instr::Compute(_, _, _, _) => none,
+        Instr::Branch(_, _, _) => none,
+        Instr::Fence(_) => none,
     }
 }
 
-// 0 if the store can be executed at time t, and the thread is then certified.
-fn keeps(c: Code, i: u8, m: Memory, s: Thread, x: Instr, t: u8, k: Cares) -> Reached
-    requires { ⌜ Trying c m s x × Settles x s (k .of) ⌝ }
-    ensures { λ r. ⌜ Found 0 1 (λ y j. T (onward (certified c i m) (execute x m t y))) s r × Covers (r .cares .of) (k .of) ⌝ }
+// 0 is met if the store can be executed at time t, and the thread is then certified.
+fn keeps(c: Code, i: u8, m: Memory, s: Thread, x: Instr, t: u8) -> Reached
+    requires { ⌜ Trying c m s x × Stores x ⌝ }
+    ensures { λ r. ⌜ Keeps c i m s x t r ⌝ }
 {
     let r = execute(x, m, t, s);
     let a = r.answer;
     let RuleAnswer::Done = a else {
-        return Reached { best: 1, cares: k };
+        return Reached {
+            met: Met {
+                least: 1,
+                second: 1,
+            },
+            cares: Cares { of: [0; 8] },
+        };
     };
-    let then = search_runs(c, i, m, r.thread, Sought::certified());
-    let rests = then.cares;
-    Reached {
-        best: then.best,
-        cares: rests.and(k),
-    }
+    search_runs(c, i, m, r.thread, Sought::certified())
 }
 
-// The instruction is executed at time t, and the thread goes on from there. The tries before t have come to nothing, and have left p.
+// The instruction is executed at time t, and the thread goes on from there; p is known of the tries before.
 // Whether that is all is asked here already: most certifications end with the store, and a call copies its arguments.
 fn try_at(c: Code, i: u8, m: Memory, s: Thread, x: Instr, t: u8, p: Tried, q: Sought) -> Tried
-    requires { ⌜ Trying c m s x × ((t ≤ 16) × Missed c i m s x q p t) ⌝ }
+    requires { ⌜ Trying c m s x × ((t ≤ 16) × Knows c i m s x q p) ⌝ }
     ensures { λ r. ⌜ Went c i m s x q p t r ⌝ }
 {
     if hopeless(c, m, s, x, t, p) {
@@ -319,18 +324,18 @@ fn try_at(c: Code, i: u8, m: Memory, s: Thread, x: Instr, t: u8, p: Tried, q: So
     let RuleAnswer::Done = a else {
         return p;
     };
-    let now = kept(r.thread, q.below(p.best));
-    if now <= q.from {
+    let less = q.after(p.met);
+    if kept(r.thread, q) {
         let cares = p.cares;
         let counted = p.counted;
         return Tried {
-            best: now,
+            met: emptied(less),
             tries: p.tries,
             cares: cares,
             counted: counted,
         };
     }
-    noted(x, t, p, search_runs(c, i, m, r.thread, q.below(p.best)))
+    noted(x, t, p, search_runs(c, i, m, r.thread, less))
 }
 
 // A store appends its own message and fulfils it at once, and the thread goes on from there.
@@ -345,15 +350,10 @@ fn own_reached(
     appending: bool,
 ) -> Reached
     requires { ⌜ Trying c m s x × Appends c m s x appending ⌝ }
-    ensures { λ r. ⌜ Found (q .from) (q .best) (λ y j. Owns c i m y x (q .hole) j) s r × Covers (r .cares .of) (k .of) ⌝ }
+    ensures { λ r. ⌜ Found (q .from) (q .met) (λ y j. Owns c i m y x (q .hole) j) s r × Covers (r .cares .of) (k .of) ⌝ }
 {
-    let none = Reached {
-        best: q.best,
-        cares: k,
-    };
-    if q.best <= q.from {
-        return none;
-    }
+    let met = q.met;
+    let none = Reached { met: met, cares: k };
     if !appending {
         return none;
     }
@@ -364,15 +364,16 @@ fn own_reached(
             let answer = r.answer;
             let RuleAnswer::Done = answer else {
                 return Reached {
-                    best: q.best,
+                    met: met,
                     cares: settled,
                 };
             };
             let w = own_message(i, a, d, s);
             let then = search_runs(c, i, m.append(w), r.thread, q);
+            let known = then.met;
             let rests = then.cares;
             Reached {
-                best: then.best,
+                met: known,
                 cares: rests.and(settled),
             }
         }

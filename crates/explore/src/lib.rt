@@ -3,20 +3,21 @@
 ghost use mathlib.Core.Path.{_≡_};
 ghost use Prim.Native.Nat.{_<_};
 ghost use Rattle.certify.specs.Answers.{Ready};
-ghost use Rattle.certify.specs.Sought.{Least};
+ghost use Rattle.certify.specs.Sought.{TwoLeast};
 ghost use Rattle.explore.specs.Explored.{Reached};
+use certify::Met;
 use certify::Sought;
-use certify::reach::least_reached;
+use certify::reach::two_reached;
 use machine::Memory;
 use machine::Message;
 use machine::Thread;
 use machine::promises::with;
 use source::Code;
 
-// The least promise from `from` on, by 256 · l + v, that a store of the thread can come to fulfil, or 4096.
-pub fn next_reached(c: Code, m: Memory, s: Thread, from: u16) -> u16
+// The two least promises from `from` on, by 256 · l + v, that a store of the thread can come to fulfil; 4096 where there are fewer.
+pub fn next_reached(c: Code, m: Memory, s: Thread, from: u16) -> Met
     requires { ⌜ Ready c m s × (m .count < 16) ⌝ }
-    ensures { λ r. ⌜ Least from 4096 (Reached c m s) r ⌝ }
+    ensures { λ r. ⌜ TwoLeast from 4096 (Reached c m s) r ⌝ }
 {
     let hole = Message {
         location: 16,
@@ -25,7 +26,7 @@ pub fn next_reached(c: Code, m: Memory, s: Thread, from: u16) -> u16
     };
     let n = m.append(hole);
     let q = s.with_promises(with(s.promises, n.count));
-    least_reached(
+    two_reached(
         c,
         0,
         n,
@@ -33,7 +34,10 @@ pub fn next_reached(c: Code, m: Memory, s: Thread, from: u16) -> u16
         Sought {
             hole: n.count,
             from: from,
-            best: 4096,
+            met: Met {
+                least: 4096,
+                second: 4096,
+            },
         },
     )
 }

@@ -12,7 +12,7 @@ use borrow.Author.Tests.{lt-ltb, le-ltb, le-leb, lt-leb, eq-eqb, ne-eqb}
 use Rattle.source.specs.Program.{instrAt, codeOf}
 use Rattle.source.specs.WellFormed.{programTest}
 use Rattle.source.proofs.Tests.{is-true}
-use Rattle.machine.specs.State.{threadOf, append}
+use Rattle.machine.specs.State.{threadOf, append, with, withPromises}
 use Rattle.machine.specs.Rules.{execute, addPromise}
 use Rattle.machine.specs.WellFormed.{machineTest, Formed}
 use Rattle.machine.specs.Answers.{ruled, reach}
@@ -28,7 +28,7 @@ use Rattle.certify.proofs.Asked.{ready-here}
 use Rattle.certify.proofs.Trying.{ready-after}
 use Rattle.step.specs.Below.{Code, Program, Instr, Message, Memory, Thread, Machine}
 use Rattle.step.specs.Step.{Step, rejected, accepted, settle, settleRule, executeInstr, executeStep, promiseStep, kindStep, ruleStep, step}
-use Rattle.step.specs.Answers.{Taken, Refused, Stepped, stepped, Moved, promisedBy, memoryAfter, Remembers, placed, outcome, Here, Settles, Executes, Promises, Moves}
+use Rattle.step.specs.Answers.{Taken, Refused, Stepped, stepped, Moved, promisedBy, memoryAfter, Remembers, placed, outcome, Here, Settles, Executes, Promises, PromisesKept, Moves}
 use Rattle.step.proofs.Backwards.{check-passed}
 
 -- the answer with which nothing moves
@@ -36,7 +36,7 @@ abbrev stays : ℕ → Thread → Moved
 stays n s = record { answer = Refused n; thread = s }
 
 -- the answer with which the thread becomes s
-abbrev goes : Thread → Moved
+abbrev pub goes : Thread → Moved
 goes s = record { answer = Taken; thread = s }
 
 -- ---- what a thread that is ready gives
@@ -110,6 +110,13 @@ module _ (c : Code) (i : ℕ) (m : Memory) (s : Thread) (l v : ℕ) (a : Moved) 
       let few : x .memory .count < 16 = rw (h .memory) j in
       rw (le-leb l 15 k, lt-ltb (x .memory .count) 16 few, ← e)
       (ap₂ (λ (n : Memory) (u : Thread). settle p x i (append n w) (addPromise (append n w) u)) (h .memory) (h .thread) ∙ q p x (h .code))
+
+-- a promise after which the thread is certified
+pub promise-keeps : (i : ℕ) (m : Memory) (s : Thread) (l v : ℕ) (r : Moved) → l < 16 → m .count < 16 → r ≡ goes (withPromises (with (s .promises) (m .count + 1)) s)
+    → PromisesKept i m s l v r
+promise-keeps i m s l v r k j z c q =
+    let w : Message = record { location = l; value = v; thread = i } in
+    promise-settles c i m s l v r (omega arith) j w refl (settle-yes c i (append m w) (addPromise (append m w) s) true (sym (is-true _ q)) refl r z)
 
 -- ---- a step of a thread, by its kind
 module _ (c : Code) (m : Memory) (s : Thread) (k : Step) (a : Moved) where

@@ -3,9 +3,12 @@
 use mathlib.Core.Path.{_≡_}
 use mathlib.Core.Logic.{_⊎_}
 use Prim.Native.Nat.{ℕ, zero, suc, _<_}
+use lib.Dec.{T}
 use lib.ListN.{set}
 use Rattle.source.specs.Program.{codeOf}
 use Rattle.machine.specs.State.{threadOf, append}
+use Rattle.machine.specs.Rules.{addPromise}
+use Rattle.certify.specs.Certify.{certified}
 use Rattle.step.specs.Below.{Code, Program, Message, Memory, Thread, Machine}
 use Rattle.step.specs.Step.{Step, Outcome, rejected, accepted, settle, executeStep, promiseStep, kindStep}
 pub use Rattle.step.specs.declared.StepAnswer.{StepAnswer}
@@ -61,6 +64,16 @@ Executes c i m s t r = (p : Program) (x : Machine) → Here c m s p x i → exec
 abbrev pub Promises : Code → ℕ → Memory → Thread → ℕ → ℕ → Moved → Type 0
 Promises c i m s l v r =
     (p : Program) (x : Machine) → Here c m s p x i → promiseStep p x i l v ≡ outcome x i (append m (record { location = l; value = v; thread = i })) r
+
+-- the promise leaves thread i certified
+abbrev pub Keeps : Code → ℕ → Memory → Thread → ℕ → ℕ → Type 0
+Keeps c i m s l v =
+    let n = append m (record { location = l; value = v; thread = i }) in
+    T (certified c i n (addPromise n s))
+
+-- r is what the definition says, with every code with which it does
+abbrev pub PromisesKept : ℕ → Memory → Thread → ℕ → ℕ → Moved → Type 0
+PromisesKept i m s l v r = (c : Code) → Keeps c i m s l v → Promises c i m s l v r
 
 abbrev pub Moves : Code → Memory → Thread → Step → Moved → Type 0
 Moves c m s k r = (p : Program) (x : Machine) → Here c m s p x (k .thread) → kindStep p x k (k .kind) ≡ outcome x (k .thread) (memoryAfter m k (k .kind)) r

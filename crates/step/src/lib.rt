@@ -4,11 +4,13 @@ mod checked;
 pub use checked::step;
 ghost use mathlib.Core.Path.{_≡_};
 ghost use mathlib.Core.Option.{some};
+ghost use Prim.Native.Nat.{_+_, _^_, _<_};
 ghost use Rattle.source.specs.Program.{instrAt};
+ghost use Rattle.machine.specs.State.{with, withPromises};
 ghost use Rattle.machine.specs.WellFormed.{Formed};
 ghost use Rattle.certify.specs.Answers.{Ready};
 ghost use Rattle.step.specs.Step.{rejected, ruleStep, step};
-ghost use Rattle.step.specs.Answers.{Taken, Refused, stepped, Settles, Executes, Promises, Moves, Remembers};
+ghost use Rattle.step.specs.Answers.{Taken, Refused, stepped, Settles, Executes, Promises, PromisesKept, Moves, Remembers};
 use certify::is_certified;
 use machine::Machine;
 use machine::Memory;
@@ -114,6 +116,14 @@ fn execute_step(c: Code, i: u8, m: Memory, s: Thread, t: u8) -> Moved
     execute_at(c.instr_at(n), c, i, m, s, t)
 }
 
+// The thread with a promise of the next message.
+fn promised(m: Memory, s: Thread) -> Thread
+    requires { ⌜ (m .count < 16) × (s .promises < 2 ^ m .count) ⌝ }
+    ensures { λ r. ⌜ r ≡ withPromises (with (s .promises) (m .count + 1)) s ⌝ }
+{
+    s.with_promises(with(s.promises, m.count + 1))
+}
+
 // Thread i promises location l and value v.
 pub fn promise_step(c: Code, i: u8, m: Memory, s: Thread, l: u8, v: u8) -> Moved
     requires { ⌜ Ready c m s ⌝ }
@@ -125,7 +135,7 @@ pub fn promise_step(c: Code, i: u8, m: Memory, s: Thread, l: u8, v: u8) -> Moved
     if 16 <= m.count {
         return stays(24, s);
     }
-    let q = s.with_promises(with(s.promises, m.count + 1));
+    let q = promised(m, s);
     let w = Message {
         location: l,
         value: v,
@@ -133,6 +143,14 @@ pub fn promise_step(c: Code, i: u8, m: Memory, s: Thread, l: u8, v: u8) -> Moved
     };
     let after = m.append(w);
     settle(c, i, after, q)
+}
+
+// The same where the promise is known to leave the thread certified: nothing is left to ask.
+pub fn promise_kept(i: u8, m: Memory, s: Thread, l: u8, v: u8) -> Moved
+    requires { ⌜ (l < 16) × ((m .count < 16) × (s .promises < 2 ^ m .count)) ⌝ }
+    ensures { λ r. ⌜ PromisesKept i m s l v r ⌝ }
+{
+    goes(promised(m, s))
 }
 
 // The step of a thread that has code c and state s, on memory m.

@@ -21,6 +21,7 @@ use Rattle.machine.specs.WellFormed.{machineTest}
 use Rattle.machine.proofs.Formed.{MachineOk}
 use Rattle.source.proofs.Formed.{ProgramOk}
 use Rattle.certify.proofs.Fit.{promises-fit}
+use Rattle.certify.proofs.Law.{Sound}
 use Rattle.explore.specs.Explored.{Reached}
 use Rattle.explore.proofs.Law.{explored-law}
 use Rattle.step.specs.Step.{Step, Outcome, rejected, accepted, settleRule, executeInstr, kindStep, ruleStep, executeStep, step, taken}
@@ -32,6 +33,12 @@ use Rattle.step.proofs.Bound.{well-formed, one-promise}
 pub not-taken : (o : Outcome) → ((y : Machine) → o ≡ accepted y → ⊥) → taken o ≡ none
 not-taken (rejected n) h = refl
 not-taken (accepted y) h = absurd (h y refl)
+
+-- a thread of a well-formed machine is one of which explorations tell
+pub sound-here : (p : Program) (x : Machine) → MachineOk p x → (i : ℕ) → i < p .threads → Sound (x .memory) (threadOf x i)
+sound-here p x mo i h =
+    let o = mo .states i h in
+    record { places = mo .memory-ok .places; locations = o .locations; forwards = o .forward-times; promises-in = o .promises-in }
 
 module _ (p : Program) (x : Machine) where
   -- an accepted step passed the test of the thread
@@ -59,9 +66,7 @@ module _ (p : Program) (x : Machine) where
   reached-did : MachineOk p x → {k : Step} {y : Machine} → Did p x k y → k .kind ≡ 1 → Reached (codeOf p (k .thread)) (x .memory) (threadOf x (k .thread)) (256 * k .a + k .b)
   reached-did mo (executed c s h g e q) z = absurd (omega arith)
   reached-did mo (promised {i} {l} {v} h low byte room q) z =
-      let o = mo .states i h in
-      explored-law (codeOf p i) i l v (x .memory) (threadOf x i)
-      (record { places = mo .memory-ok .places; locations = o .locations; forwards = o .forward-times; promises-in = o .promises-in }) byte room q
+      explored-law (codeOf p i) i l v (x .memory) (threadOf x i) (sound-here p x mo i h) byte room q
 
   module _ (i : ℕ) where
     -- ---- times

@@ -1,6 +1,7 @@
 -- What the code of the next step worth a try relies on, on plain values: numbers of steps, stores that are left, what a thread can try.
 -- Assumes nothing.
-use mathlib.Core.Path.{_≡_, sym, ap, subst, _∙_}
+use mathlib.Core.Path.{_≡_, refl, sym, ap, subst, _∙_}
+use mathlib.Core.Logic.{⊎-elim}
 use mathlib.Core.Bool.{Bool, true, false, not}
 use mathlib.Core.Option.{none, some}
 use Prim.Native.Nat.{ℕ, zero, suc, _*_, _+_, _-_, _/_, _%_, _≤_, _<_}
@@ -21,15 +22,20 @@ use Rattle.machine.specs.State.{threadOf}
 use Rattle.machine.specs.Rules.{next, execute}
 use Rattle.machine.proofs.Cases.{was-true}
 use Rattle.live.proofs.Stores.{stores-end}
-use Rattle.certify.specs.Sought.{Least}
+use Rattle.certify.specs.declared.Met.{Met}
+use Rattle.certify.specs.Sought.{TwoLeast}
+use Rattle.certify.proofs.Law.{Sound}
 use Rattle.explore.specs.Explored.{Reached}
+use Rattle.explore.proofs.Kept.{reached-law}
 use Rattle.step.specs.Step.{Step, step, taken}
 use Rattle.step.specs.Order.{execution}
-use Rattle.step.specs.Answers.{Here}
+use Rattle.step.specs.declared.Moved.{Moved}
+use Rattle.step.specs.Answers.{Here, PromisesKept, Moves}
+use Rattle.step.proofs.Stepping.{kind-promise}
 use Rattle.listing.proofs.Keys.{keyPromise}
-use Rattle.tries.specs.Steps.{stepAt, Next}
+use Rattle.tries.specs.Steps.{stepAt, Numbered, Next}
 use Rattle.times.specs.Times.{AtZero, Later, After}
-use Rattle.tries.specs.Worthwhile.{Attempts, timely, Worth, NextTime}
+use Rattle.tries.specs.Worthwhile.{Attempts, Ahead, timely, Worth, NextTime, Promising, Foreseen, Keepable}
 use Rattle.tries.proofs.Refused.{no-instruction, no-such-time, no-store-left, no-room, not-reached}
 
 -- ---- numbers of steps
@@ -40,6 +46,10 @@ at-time i k h = rw (lt-ltb k 17 h)
 pub at-key : (i k : ℕ) → 17 ≤ k → keyPromise i (k - 17) ≡ stepAt i k
 unfolding stepAt
 at-key i k h = rw (le-ltb k 17 h)
+
+-- a step with a number that is not an execution is a promise
+pub is-promise : (k : Step) → Numbered k → (k .kind ≡ 0 → ⊥) → k .kind ≡ 1
+is-promise k n other = let low = n .1 in omega (arith, other)
 
 -- ---- what a thread can try
 module _ (c : Code) (m : Memory) (s : Thread) where
@@ -91,52 +101,127 @@ module _ {t : Attempts} where
       go zero l h = absurd (n (omega arith))
       go (suc u) l h = a .between (suc u) (omega (arith, n)) h
 
-module _ (c : Code) (m : Memory) (s : Thread) (t : Attempts) (w : Worth c m s t) where
-  pub none-promised : (from : ℕ) → t .promises ≡ false → Next keyPromise 4096 c m s from 4096
-  none-promised from e = record { within = omega arith; after = λ l. l; refused = λ p x i h k l u. w .promises e p x i h k }
+-- the lesser of two is within the top too
+pub least-within : (from top : ℕ) (P : ℕ → Type 0) (r : Met) → TwoLeast from top P r → r .least ≤ top
+least-within from top P r two = let w = two .within in ⊎-elim (λ l. omega arith) (λ e. let f = e .0 in omega arith) (two .ordered)
 
-  -- at a time
-  pub at-a-time : (from k : ℕ) → from < 17 → NextTime t from k → k < 17 → Next stepAt 4113 c m s from k
-  at-a-time from k h nt l =
+module _ (c : Code) (m : Memory) (s : Thread) where
+  -- one number, and no other known
+  pub one-ahead : (k : ℕ) → Promising c m s k → Foreseen c m s (record { next = k; then = 0 })
+  one-ahead k h = record { next-kept = h; then-kept = λ l u. absurd (omega arith); then-next = λ n. absurd (n refl) }
+
+  nothing-ahead : Foreseen c m s (record { next = 4113; then = 0 })
+  nothing-ahead = one-ahead 4113 (λ l u. absurd (omega arith))
+
+  -- the next promise is the next step
+  next-key : (from n : ℕ) → Next keyPromise 4096 c m s from n → Next stepAt 4113 c m s (from + 17) (n + 17)
+  next-key from n nx =
+      record {
+        within = let w = nx .within in omega arith;
+        after = λ l. let a : from ≤ n = nx .after (omega arith) in omega arith;
+        refused = λ p x i g k l u. ap (λ (y : Step). taken (step p x y)) (sym (at-key i k (omega arith))) ∙ nx .refused p x i g (k - 17) (omega arith) (omega arith);
+      }
+
+  -- none is worth a try
+  pub none-promised : (t : Attempts) → Worth c m s t → (from : ℕ) → t .promises ≡ false → Next stepAt 4113 c m s (from + 17) 4113 × Foreseen c m s (record { next = 4113; then = 0 })
+  none-promised t w from e =
+      (next-key from 4096 (record { within = omega arith; after = λ l. l; refused = λ p x i h k l u. w .promises e p x i h k }), nothing-ahead)
+
+  -- none has room
+  pub next-full : (from : ℕ) → 16 ≤ m .count → Next stepAt 4113 c m s (from + 17) 4113 × Foreseen c m s (record { next = 4113; then = 0 })
+  next-full from full =
+      (next-key from 4096 (record { within = omega arith; after = λ l. l; refused = λ p x i h k a u. no-room p x i (k / 256) (k % 256) (rw (h .memory) full) }), nothing-ahead)
+
+  -- what no exploration reaches is refused
+  unreached : (k : ℕ) → (Reached c m s k → ⊥) → (p : Program) (x : Machine) (i : ℕ) → Here c m s p x i → taken (step p x (keyPromise i k)) ≡ none
+  unreached k never p x i h =
+      let same : 256 * (k / 256) + k % 256 ≡ k = omega arith in
+      not-reached p x i (k / 256) (k % 256) (rw (h .code, h .memory, h .thread) (λ r. never (subst (Reached c m s) same r)))
+
+  -- from what an exploration answers
+  module _ (from : ℕ) (r : Met) (two : TwoLeast from 4096 (Reached c m s) r) where
+    first-key : Next keyPromise 4096 c m s from (r .least)
+    first-key =
+        let top = least-within from 4096 (Reached c m s) r two in
+        let w = two .within in
+        record {
+          within = top;
+          after = λ h. elim (decLt (r .least) 4096) [ yes u ↦ two .first u .0 | no u ↦ omega arith ];
+          refused = λ p x i h k a u.
+              let low : k < r .second = ⊎-elim (λ l. omega arith) (λ e. let f = e .1 in omega arith) (two .ordered) in
+              unreached k (two .others k a low (λ e. omega arith)) p x i h;
+        }
+
+    second-key : Next keyPromise 4096 c m s (r .least + 1) (r .second)
+    second-key =
+        let w = two .within in
+        record {
+          within = w;
+          after = λ h. ⊎-elim (λ l. omega arith) (λ e. let f = e .0 in absurd (omega arith)) (two .ordered);
+          refused = λ p x i h k a u.
+              let low = two .first (omega arith) .0 in
+              unreached k (two .others k (omega arith) u (λ e. omega arith)) p x i h;
+        }
+
+    pub next-explored : m .count < 16 → Next stepAt 4113 c m s (from + 17) (r .least + 17) × Foreseen c m s (record { next = r .least + 17; then = r .second + 17 })
+    next-explored few = (
+      next-key from (r .least) first-key,
+      record {
+        next-kept = λ l u. (few, subst (Reached c m s) (back (r .least)) (two .first (omega arith) .1));
+        then-kept = λ l u. (few, subst (Reached c m s) (back (r .second)) (two .then (omega arith) .1));
+        then-next = λ n. subst (λ (k : ℕ). Next stepAt 4113 c m s k (r .second + 17)) (omega arith) (next-key (r .least + 1) (r .second) second-key);
+      },
+    )
+      where
+        back : (k : ℕ) → k ≡ k + 17 - 17
+        back k = omega arith
+
+  pub past-times : (from : ℕ) (r : Ahead) → 17 ≤ from → Next stepAt 4113 c m s (from - 17 + 17) (r .next) × Foreseen c m s r → Next stepAt 4113 c m s from (r .next) × Foreseen c m s r
+  past-times from r h nx = (subst (λ (k : ℕ). Next stepAt 4113 c m s k (r .next)) (omega arith) (nx .0), nx .1)
+
+  -- a promise with such a number can be kept
+  pub keepable : (i k : ℕ) → k < 4113 → Promising c m s k → (y : Step) → y ≡ stepAt i k → Keepable c m s y
+  keepable i k h q y e = subst (Keepable c m s) (sym e) (elim (decLt k 17) [
+    | yes l ↦ subst (Keepable c m s) (at-time i k l) (λ z. absurd (omega arith))
+    | no l ↦ subst (Keepable c m s) (at-key i k (omega arith))
+        (λ z. let r = q (omega arith) h in
+        let same : k - 17 ≡ 256 * ((k - 17) / 256) + (k - 17) % 256 = omega arith in
+        (omega arith, r .0, subst (Reached c m s) same (r .1)))
+  ])
+
+  -- and leaves the thread certified
+  pub promise-kept : (k : Step) → k .kind ≡ 1 → Sound m s → Keepable c m s k → k .b < 256 → (r : Moved) → PromisesKept (k .thread) m s (k .a) (k .b) r → Moves c m s k r
+  promise-kept k e ok q byte r h =
+      let z = q e in
+      kind-promise c m s k r e byte (h c (reached-law c (k .thread) (k .a) (k .b) m s ok byte (z .1) (z .2)))
+
+  -- what is known to come after the first
+  pub foreseen : (k : Ahead) → Foreseen c m s k → (k .then ≡ 0 → ⊥) → Next stepAt 4113 c m s (k .next + 1) (k .then) × Foreseen c m s (record { next = k .then; then = 0 })
+  foreseen k f n = (f .then-next n, one-ahead (k .then) (f .then-kept))
+
+  module _ (t : Attempts) (w : Worth c m s t) (from k : ℕ) (h : from < 17) (nt : NextTime t from k) where
+    -- at a time
+    pub at-a-time : k < 17 → Next stepAt 4113 c m s from k × Foreseen c m s (record { next = k; then = 0 })
+    at-a-time l = (
       record {
         within = omega arith;
         after = λ _. nt .after (omega arith);
         refused = λ p x i g j a u. ap (λ (y : Step). taken (step p x y)) (sym (at-time i j (omega arith))) ∙ w .times p x i g j (nt .others j a u);
-      }
+      },
+      one-ahead k (λ a u. absurd (omega arith)),
+    )
 
-  -- no time is left, so on to the promises
-  pub after-times : (from k n : ℕ) → from < 17 → NextTime t from k → 17 ≤ k → Next keyPromise 4096 c m s 0 n → Next stepAt 4113 c m s from (n + 17)
-  after-times from k n h nt l nx =
-      record {
-        within = let a = nx .within in omega arith;
-        after = λ _. omega arith;
-        refused = λ p x i g j a u. elim (decLt j 17) [
-          | yes b ↦ ap (λ (y : Step). taken (step p x y)) (sym (at-time i j b)) ∙ w .times p x i g j (nt .others j a (omega arith))
-          | no b ↦ ap (λ (y : Step). taken (step p x y)) (sym (at-key i j (omega arith))) ∙ nx .refused p x i g (j - 17) (omega arith) (omega arith)
-        ];
-      }
-
-module _ (c : Code) (m : Memory) (s : Thread) where
-  -- none has room
-  pub next-full : (from : ℕ) → 16 ≤ m .count → Next keyPromise 4096 c m s from 4096
-  next-full from full =
-      record { within = omega arith; after = λ l. l; refused = λ p x i h k a u. no-room p x i (k / 256) (k % 256) (rw (h .memory) full) }
-
-  -- from what an exploration answers
-  pub next-explored : (from n : ℕ) → Least from 4096 (Reached c m s) n → Next keyPromise 4096 c m s from n
-  next-explored from n l =
-      record {
-        within = l .better .low;
-        after = λ h. let top = l .better .low in elim (decLt n 4096) [ yes u ↦ l .better .hit u .0 | no u ↦ omega arith ];
-        refused = λ p x i h k a u.
-            let same : 256 * (k / 256) + k % 256 ≡ k = omega arith in
-            not-reached p x i (k / 256) (k % 256) (rw (h .code, h .memory, h .thread) (λ r. l .least k a u (subst (Reached c m s) same r)));
-      }
-
-  pub past-times : (from n : ℕ) → 17 ≤ from → Next keyPromise 4096 c m s (from - 17) n → Next stepAt 4113 c m s from (n + 17)
-  past-times from n h nx =
-      record {
-        within = let w = nx .within in omega arith;
-        after = λ l. let a : from - 17 ≤ n = nx .after (omega arith) in omega arith;
-        refused = λ p x i g k l u. ap (λ (y : Step). taken (step p x y)) (sym (at-key i k (omega arith))) ∙ nx .refused p x i g (k - 17) (omega arith) (omega arith);
-      }
+    -- no time is left, so on to the promises
+    pub after-times : 17 ≤ k → (r : Ahead) → Next stepAt 4113 c m s 17 (r .next) × Foreseen c m s r → Next stepAt 4113 c m s from (r .next) × Foreseen c m s r
+    after-times l r nx =
+        let top = nx .0 .after (omega arith) in (
+          record {
+            within = nx .0 .within;
+            after = λ _. omega arith;
+            refused = λ p x i g j a u. elim (decLt j 17) [
+              | yes b ↦ ap (λ (y : Step). taken (step p x y)) (sym (at-time i j b)) ∙ w .times p x i g j (nt .others j a (omega arith))
+              | no b ↦ nx .0 .refused p x i g j (omega arith) u
+            ];
+          },
+          nx .1,
+        )

@@ -3,17 +3,20 @@
 use mathlib.Core.Path.{_≡_}
 use mathlib.Core.Bool.{Bool, false}
 use mathlib.Core.Option.{none}
-use Prim.Native.Nat.{ℕ, zero, suc, _≤_, _<_}
+use Prim.Native.Nat.{ℕ, zero, suc, _+_, _-_, _*_, _≤_, _<_}
 use Rattle.source.specs.declared.Code.{Code}
 use Rattle.source.specs.declared.Program.{Program}
 use Rattle.machine.specs.declared.Memory.{Memory}
 use Rattle.machine.specs.declared.Thread.{Thread}
 use Rattle.machine.specs.declared.Machine.{Machine}
 use Rattle.machine.specs.State.{has}
-use Rattle.step.specs.Step.{step, taken}
+use Rattle.step.specs.Step.{Step, step, taken}
 use Rattle.step.specs.Order.{execution}
 use Rattle.step.specs.Answers.{Here}
 use Rattle.listing.proofs.Keys.{keyPromise}
+use Rattle.explore.specs.Explored.{Reached}
+use Rattle.tries.specs.Steps.{stepAt, Next}
+pub use Rattle.tries.specs.declared.Ahead.{Ahead}
 pub use Rattle.tries.specs.declared.Attempts.{Attempts}
 
 -- time k is worth a try
@@ -31,3 +34,17 @@ pub record NextTime (t : Attempts) (k r : ℕ) : Type 0 where
   pub within : r ≤ 17
   pub after : k ≤ 17 → k ≤ r
   pub others : (u : ℕ) → k ≤ u → u < r → timely t u ≡ false
+
+-- a promise of that number has room, and a run of the thread alone could keep it
+abbrev pub Promising : Code → Memory → Thread → ℕ → Type 0
+Promising c m s k = 17 ≤ k → k < 4113 → (m .count < 16) × Reached c m s (k - 17)
+
+-- what is known of the numbers ahead: which promises they are, and that the second, where it is known, is the next after the first
+pub record Foreseen (c : Code) (m : Memory) (s : Thread) (r : Ahead) : Type 0 where
+  pub next-kept : Promising c m s (r .next)
+  pub then-kept : Promising c m s (r .then)
+  pub then-next : (r .then ≡ 0 → ⊥) → Next stepAt 4113 c m s (r .next + 1) (r .then)
+
+-- k, where it is a promise, has a location and room, and a run of the thread alone could keep it
+abbrev pub Keepable : Code → Memory → Thread → Step → Type 0
+Keepable c m s k = k .kind ≡ 1 → (k .a < 16) × (m .count < 16) × Reached c m s (256 * k .a + k .b)

@@ -4,15 +4,15 @@ pub mod threads;
 
 ghost use mathlib.Core.Path.{_≡_};
 ghost use mathlib.Core.Option.{some};
-ghost use Prim.Native.Nat.{_≤_, _<_};
+ghost use Prim.Native.Nat.{_+_, _≤_, _<_};
 ghost use Rattle.source.specs.Program.{instrAt};
 ghost use Rattle.source.specs.Counts.{storesFrom};
 ghost use Rattle.step.specs.Answers.{Moves};
 ghost use Rattle.step.specs.Order.{execution, promise};
 ghost use Rattle.certify.specs.Answers.{Ready};
-ghost use Rattle.listing.proofs.Keys.{keyPromise};
+ghost use Rattle.certify.proofs.Law.{Sound};
 ghost use Rattle.tries.specs.Steps.{stepAt, Next, Numbered};
-ghost use Rattle.tries.specs.Worthwhile.{Worth, NextTime};
+ghost use Rattle.tries.specs.Worthwhile.{Worth, NextTime, Foreseen, Keepable};
 use explore::next_reached;
 use live::fewer_stores;
 use machine::Memory;
@@ -22,7 +22,7 @@ use source::Instr;
 use step::Moved;
 use step::TraceStep;
 use step::execute_at;
-use step::promise_step;
+use step::promise_kept;
 use times::after;
 use times::at_zero;
 use times::later_times;
@@ -32,6 +32,12 @@ pub struct Attempts {
     pub zero: bool,
     pub later: u16,
     pub promises: bool,
+}
+
+// The next number that is worth a try, and the one after it if that is known already, else 0: an exploration finds two promises at once.
+pub struct Ahead {
+    pub next: u16,
+    pub then: u16,
 }
 
 fn execution(i: u8, t: u8) -> TraceStep
@@ -93,43 +99,71 @@ fn next_time(t: Attempts, from: u8) -> u8
     after(t.later, from - 1)
 }
 
-// The next promise that is worth a try, by 256 · l + v, or 4096: one that a run of the thread alone could keep. With 16 messages
-// there is no room for one.
-fn next_promise(t: Attempts, c: Code, m: Memory, s: Thread, from: u16) -> u16
+// The next promises that are worth a try, from the promise 256 · l + v on: those that a run of the thread alone could keep. With 16
+// messages there is no room for one.
+fn next_promises(t: Attempts, c: Code, m: Memory, s: Thread, from: u16) -> Ahead
     requires { ⌜ Ready c m s × Worth c m s t ⌝ }
-    ensures { λ r. ⌜ Next keyPromise 4096 c m s from r ⌝ }
+    ensures { λ r. ⌜ Next stepAt 4113 c m s (from + 17) (r .next) × Foreseen c m s r ⌝ }
 {
     if !t.promises {
-        return 4096;
+        return Ahead {
+            next: 4113,
+            then: 0,
+        };
     }
     if 16 <= m.count {
-        return 4096;
+        return Ahead {
+            next: 4113,
+            then: 0,
+        };
     }
-    next_reached(c, m, s, from)
+    let met = next_reached(c, m, s, from);
+    Ahead {
+        next: met.least + 17,
+        then: met.second + 17,
+    }
 }
 
 // The next step that is worth a try.
-pub fn next_try(t: Attempts, c: Code, m: Memory, s: Thread, from: u16) -> u16
+pub fn next_try(t: Attempts, c: Code, m: Memory, s: Thread, from: u16) -> Ahead
     requires { ⌜ Ready c m s × Worth c m s t ⌝ }
-    ensures { λ r. ⌜ Next stepAt 4113 c m s from r ⌝ }
+    ensures { λ r. ⌜ Next stepAt 4113 c m s from (r .next) × Foreseen c m s r ⌝ }
 {
     if 17 <= from {
-        return next_promise(t, c, m, s, from - 17) + 17;
+        return next_promises(t, c, m, s, from - 17);
     }
     let k = next_time(t, from as u8);
     if k < 17 {
-        return k as u16;
+        return Ahead {
+            next: k as u16,
+            then: 0,
+        };
     }
-    next_promise(t, c, m, s, 0) + 17
+    next_promises(t, c, m, s, 0)
 }
 
-// The step of a thread with the next instruction x. A step that has a number is of one of the two kinds.
+// The step after k .next that is worth a try.
+pub fn after_try(t: Attempts, c: Code, m: Memory, s: Thread, k: Ahead) -> Ahead
+    requires { ⌜ Ready c m s × (Worth c m s t × (Foreseen c m s k × (k .next < 4113))) ⌝ }
+    ensures { λ r. ⌜ Next stepAt 4113 c m s (k .next + 1) (r .next) × Foreseen c m s r ⌝ }
+{
+    if k.then != 0 {
+        return Ahead {
+            next: k.then,
+            then: 0,
+        };
+    }
+    next_try(t, c, m, s, k.next + 1)
+}
+
+// The step of a thread with the next instruction x. A step that has a number is of one of the two kinds. That a promise can be kept is
+// known from the exploration: it is not certified once more.
 pub fn attempt(x: Instr, c: Code, m: Memory, s: Thread, k: TraceStep) -> Moved
-    requires { ⌜ Ready c m s × (instrAt c (s .position) ≡ some x) × Numbered k ⌝ }
+    requires { ⌜ Ready c m s × (instrAt c (s .position) ≡ some x) × Numbered k × Sound m s × Keepable c m s k ⌝ }
     ensures { λ r. ⌜ Moves c m s k r ⌝ }
 {
     if k.kind == 0 {
         return execute_at(x, c, k.thread, m, s, k.a);
     }
-    promise_step(c, k.thread, m, s, k.a, k.b)
+    promise_kept(k.thread, m, s, k.a, k.b)
 }

@@ -18,7 +18,8 @@ use Rattle.source.specs.Program.{instrAt, codeOf}
 use Rattle.source.specs.declared.Instr.{Instr}
 use Rattle.source.proofs.Arrays.{getD-any}
 use Rattle.certify.specs.Answers as certified
-use Rattle.certify.proofs.Asked.{program-facts, ready-here}
+use Rattle.certify.proofs.Asked.{program-facts, machine-facts, ready-here}
+use Rattle.certify.proofs.Law.{Sound}
 use Rattle.values.specs.Lists.{put}
 use Rattle.sequences.proofs.Scan.{Scan}
 use Rattle.step.specs.Step.{Step, accepted, rejected, step}
@@ -36,7 +37,10 @@ use Rattle.arrivals.specs.declared.Ran.the-variants.{Going, Found, Out}
 use Rattle.arrivals.specs.Visits.{visiting, Tells, Ready}
 use Rattle.tries.specs.Steps.{NextOpen, stepAt, Numbered, Next}
 use Rattle.tries.specs.declared.Attempts.{Attempts}
-use Rattle.tries.specs.Worthwhile.{Worth}
+use Rattle.tries.specs.declared.Ahead.{Ahead}
+use Rattle.tries.specs.Worthwhile.{Worth, Foreseen, Keepable}
+use Rattle.tries.proofs.Refused.{sound-here}
+use Rattle.tries.proofs.Worth.{keepable}
 use Rattle.visits.proofs.InPlace.{set-again, set-back}
 use Rattle.arrivals.proofs.Turns.{BeforeThread, BeforeStep, begins, all-done, to-next, first-try, thread-done, to-open, refused-on, went-below, out-below, found-below, has-thread, not-asked}
 
@@ -55,17 +59,17 @@ pub record AtThread (p : Program) (x : Machine) (d left : ℕ) (old : List ℕ) 
   pub has-next : i < 4 → (threadOf x i) .position < (codeOf p i) .count
   pub stands : BeforeThread p x (visiting p x left) i rest
 
--- before step k of thread i, which has code c, state s and the next instruction w
-pub record AtStep (p : Program) (x : Machine) (d left : ℕ) (old : List ℕ) (m : Memory) (i : ℕ) (c : Code) (s : Thread) (w : Instr) (t : Attempts) (y : Machine) (area : List ℕ) (rest k : ℕ) : Type 0 where
+-- before step k .next of thread i, which has code c, state s and the next instruction w
+pub record AtStep (p : Program) (x : Machine) (d left : ℕ) (old : List ℕ) (m : Memory) (i : ℕ) (c : Code) (s : Thread) (w : Instr) (t : Attempts) (y : Machine) (area : List ℕ) (rest : ℕ) (k : Ahead) : Type 0 where
   pub ready : Ready p x d old
   pub here : Here c m s p x i
   pub next-is : instrAt c (s .position) ≡ some w
   pub others : Others x i y
   pub worth : Worth c m s t
   pub in-program : i < p .threads
-  pub in-range : k ≤ 4113
+  pub ahead : Foreseen c m s k
   pub same : area ≡ old
-  pub stands : BeforeStep p x (visiting p x left) i k rest
+  pub stands : BeforeStep p x (visiting p x left) i (k .next) rest
 
 pub is-numbered : (i k : ℕ) (s : Step) → s ≡ stepAt i k → Numbered s
 unfolding stepAt
@@ -121,7 +125,7 @@ module _ {p : Program} {x : Machine} {d left : ℕ} {old : List ℕ} {m : Memory
         let b = thread-ready h c s e f .code-ok .short in
         (omega arith, l)
 
-    pub first : i < 4 → (c : Code) (s : Thread) → c ≡ codeOf p i → s ≡ threadOf x i → (u : Instr) → instrAt c (s .position) ≡ some u → (t : Attempts) → Worth c m s t → (k : ℕ) → Next stepAt 4113 c m s 0 k
+    pub first : i < 4 → (c : Code) (s : Thread) → c ≡ codeOf p i → s ≡ threadOf x i → (u : Instr) → instrAt c (s .position) ≡ some u → (t : Attempts) → Worth c m s t → (k : Ahead) → Next stepAt 4113 c m s 0 (k .next) × Foreseen c m s k
         → AtStep p x d left area m i c s u t y area rest k
     first h c s e f u is-next t w k nx =
         let g : Here c m s p x i = record { code = sym e; memory = sym (T .memory); thread = sym f } in
@@ -132,9 +136,9 @@ module _ {p : Program} {x : Machine} {d left : ℕ} {old : List ℕ} {m : Memory
           others = λ q. ap (λ (l : List Thread). set l i q) (T .put-back);
           worth = w;
           in-program = in-program h;
-          in-range = nx .within;
+          ahead = nx .1;
           same = refl;
-          stands = first-try p x i k rest g h nx (T .stands);
+          stands = first-try p x i (k .next) rest g h (nx .0) (T .stands);
         }
 
     pub ends : 4 ≤ i → Tells d (visiting p x left) (Going rest) old area
@@ -144,7 +148,7 @@ module _ {p : Program} {x : Machine} {d left : ℕ} {old : List ℕ} {m : Memory
         (record { answer = refl; lent = T .same })
 
     -- all steps of the thread are done
-    pub leaves : {c : Code} {s : Thread} {u : Instr} {t : Attempts} {y' : Machine} {area' : List ℕ} {rest' k : ℕ} → AtStep p x d left area m i c s u t y' area' rest' k → 4113 ≤ k
+    pub leaves : {c : Code} {s : Thread} {u : Instr} {t : Attempts} {y' : Machine} {area' : List ℕ} {rest' : ℕ} {k : Ahead} → AtStep p x d left area m i c s u t y' area' rest' k → 4113 ≤ k .next
         → (z : Machine) → z .threads ≡ set (y' .threads) i s → (r : ℕ) → NextOpen p x (i + 1) r → AtThread p x d left old m z area' rest' r
     leaves {c} {s} {u} {t} {y'} {area'} {rest'} {k} U h z e r n =
         record {
@@ -155,20 +159,29 @@ module _ {p : Program} {x : Machine} {d left : ℕ} {old : List ℕ} {m : Memory
           put-back = e ∙ U .others s ∙ ap (set (x .threads) i) (sym (U .here .thread)) ∙ set-back (x .threads) i freshThread;
           same = U .same ∙ T .same;
           has-next = n .has-next;
-          stands = to-open p x (i + 1) r rest' n (thread-done p x i k rest' h (U .stands));
+          stands = to-open p x (i + 1) r rest' n (thread-done p x i (k .next) rest' h (U .stands));
         }
 
     -- an answer within the thread's steps is one of the whole
     pub answers : {r : Ran} {new : List ℕ} → Tells d (visiting p x left) r area new → Tells d (visiting p x left) r old new
     answers {r} {new} t = subst (λ (a : List ℕ). Tells d (visiting p x left) r a new) (T .same) t
 
-  module _ {i : ℕ} {c : Code} {s : Thread} {w : Instr} {t : Attempts} {o : Machine} {area : List ℕ} {rest k : ℕ} (U : AtStep p x d left old m i c s w t o area rest k) where
+  module _ {i : ℕ} {c : Code} {s : Thread} {w : Instr} {t : Attempts} {o : Machine} {area : List ℕ} {rest : ℕ} {k : Ahead} (U : AtStep p x d left old m i c s w t o area rest k) where
     pub step-ready : certified.Ready c m s
     step-ready =
         let h = U .here in
         subst (λ (n : Code). certified.Ready n m s) (h .code)
         (subst (λ (n : Memory). certified.Ready (codeOf p i) n s) (h .memory)
         (subst (λ (n : Thread). certified.Ready (codeOf p i) (x .memory) n) (h .thread) (ready-here p x (U .ready .well) i (U .in-program))))
+
+    pub step-sound : Sound m s
+    step-sound =
+        let h = U .here in
+        subst (λ (n : Memory). Sound n s) (h .memory)
+        (subst (λ (n : Thread). Sound (x .memory) n) (h .thread) (sound-here p x (machine-facts p x (U .ready .well)) i (U .in-program)))
+
+    pub step-kept : k .next < 4113 → (k' : Step) → k' ≡ stepAt i (k .next) → Keepable c m s k'
+    step-kept l = keepable c m s i (k .next) l (U .ahead .next-kept)
 
     -- thread i set once more
     pub set-others : (q : Thread) (o' : Machine) → o' .threads ≡ set (o .threads) i q → Others x i o'
@@ -178,8 +191,8 @@ module _ {p : Program} {x : Machine} {d left : ℕ} {old : List ℕ} {m : Memory
     same-others o' e a = ap (λ (z : Machine). set (z .threads) i a) e ∙ U .others a
 
     -- on to the next try, with b left
-    pub on : (b rest' k' : ℕ) (mid new : List ℕ) (o' : Machine) → Others x i o' → k < 4113 → BeforeStep p x (visiting p x left) i (k + 1) b × (mid ≡ area) → new ≡ mid → rest' ≡ b
-        → Next stepAt 4113 c m s (k + 1) k' → AtStep p x d left old m i c s w t o' new rest' k'
+    pub on : (b rest' : ℕ) (k' : Ahead) (mid new : List ℕ) (o' : Machine) → Others x i o' → k .next < 4113 → BeforeStep p x (visiting p x left) i (k .next + 1) b × (mid ≡ area) → new ≡ mid → rest' ≡ b
+        → Next stepAt 4113 c m s (k .next + 1) (k' .next) × Foreseen c m s k' → AtStep p x d left old m i c s w t o' new rest' k'
     on b rest' k' mid new o' others l v e f nx =
         record {
           ready = U .ready;
@@ -188,14 +201,14 @@ module _ {p : Program} {x : Machine} {d left : ℕ} {old : List ℕ} {m : Memory
           others = others;
           worth = U .worth;
           in-program = U .in-program;
-          in-range = nx .within;
+          ahead = nx .1;
           same = e ∙ v .1 ∙ U .same;
-          stands = to-next p x i (k + 1) k' rest' (U .here) (omega arith) nx (subst (BeforeStep p x (visiting p x left) i (k + 1)) (sym f) (v .0));
+          stands = to-next p x i (k .next + 1) (k' .next) rest' (U .here) (omega arith) (nx .0) (subst (BeforeStep p x (visiting p x left) i (k .next + 1)) (sym f) (v .0));
         }
 
-    module _ (l : k < 4113) (k' : Step) (e : k' ≡ stepAt i k) (r : Moved) (q : Moves c m s k' r) where
+    module _ (l : k .next < 4113) (k' : Step) (e : k' ≡ stepAt i (k .next)) (r : Moved) (q : Moves c m s k' r) where
       thread-is : k' .thread ≡ i
-      thread-is = ap (λ (y : Step). y .thread) e ∙ step-thread i k
+      thread-is = ap (λ (y : Step). y .thread) e ∙ step-thread i (k .next)
 
       here-too : Here c m s p x (k' .thread)
       here-too = subst (Here c m s p x) (sym thread-is) (U .here)
@@ -203,26 +216,26 @@ module _ {p : Program} {x : Machine} {d left : ℕ} {old : List ℕ} {m : Memory
       in-program-too : k' .thread < p .threads
       in-program-too = let h = thread-is in let g = U .in-program in omega arith
 
-      pub is-rejected : (n : ℕ) → r .answer ≡ Refused n → BeforeStep p x (visiting p x left) i (k + 1) rest
+      pub is-rejected : (n : ℕ) → r .answer ≡ Refused n → BeforeStep p x (visiting p x left) i (k .next + 1) rest
       is-rejected n h =
-          refused-on p x i k rest l (U .stands) n
+          refused-on p x i (k .next) rest l (U .stands) n
           (subst (λ (y : Step). step p x y ≡ rejected n) e (thread-refused p x (U .ready .well) k' in-program-too here-too r q n h))
 
       module _ (h : r .answer ≡ Taken) (n : Memory) (v : Remembers m k' n) (y : Machine) (z : y ≡ record { memory = n; threads = set (o .threads) i (r .thread) }) where
-        is-accepted : step p x (stepAt i k) ≡ accepted y
+        is-accepted : step p x (stepAt i (k .next)) ≡ accepted y
         is-accepted =
             subst (λ (j : Step). step p x j ≡ accepted y) e
             (thread-taken p x (U .ready .well) k' in-program-too here-too r q h n v y
             (z ∙ (λ j. record { memory = n; threads = U .others (r .thread) j }) ∙ ap (λ (j : ℕ). record { memory = n; threads = set (x .threads) j (r .thread) }) (sym thread-is)))
 
         pub lower : potential p y < potential p x
-        lower = lowers p x y (stepAt i k) is-accepted
+        lower = lowers p x y (stepAt i (k .next)) is-accepted
 
         ready-old : Ready p y (d + 1) old
         ready-old =
             let o = U .ready in
             record {
-              well = record { program-formed = o .well .program-formed; machine-formed = kept p x y (stepAt i k) is-accepted };
+              well = record { program-formed = o .well .program-formed; machine-formed = kept p x y (stepAt i (k .next)) is-accepted };
               room = let b = lower in let w = o .room in omega arith;
             }
 
@@ -230,13 +243,13 @@ module _ {p : Program} {x : Machine} {d left : ℕ} {old : List ℕ} {m : Memory
         ready-below = subst (Ready p y (d + 1)) (sym (U .same)) ready-old
 
         module _ (a : Ran) (mid : List ℕ) (below : Tells (d + 1) (visiting p y rest) a area mid) where
-          pub goes-on : (b : ℕ) → a ≡ Going b → BeforeStep p x (visiting p x left) i (k + 1) b × (mid ≡ area)
-          goes-on b f = went-below p x i k rest l (U .stands) y is-accepted (d + 1) b a area mid below f
+          pub goes-on : (b : ℕ) → a ≡ Going b → BeforeStep p x (visiting p x left) i (k .next + 1) b × (mid ≡ area)
+          goes-on b f = went-below p x i (k .next) rest l (U .stands) y is-accepted (d + 1) b a area mid below f
 
           pub runs-out : a ≡ Out → Tells d (visiting p x left) Out old mid
-          runs-out f = subst (λ (v : List ℕ). Tells d (visiting p x left) Out v mid) (U .same) (out-below p x i k rest l (U .stands) y is-accepted d a area mid below f)
+          runs-out f = subst (λ (v : List ℕ). Tells d (visiting p x left) Out v mid) (U .same) (out-below p x i (k .next) rest l (U .stands) y is-accepted d a area mid below f)
 
           pub finds : (b n : ℕ) → a ≡ Found b n → (new : List ℕ) → new ≡ put (d * 6) (stepBytes k') mid → Tells d (visiting p x left) (Found b n) old new
           finds b n f new g =
               subst (λ (v : List ℕ). Tells d (visiting p x left) (Found b n) v new) (U .same)
-              (found-below p x i k rest l (U .stands) y is-accepted d b n a area mid new ready-below below f k' e g)
+              (found-below p x i (k .next) rest l (U .stands) y is-accepted d b n a area mid new ready-below below f k' e g)

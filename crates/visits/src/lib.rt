@@ -16,6 +16,7 @@ use step::TraceStep;
 use step::memory_after;
 use table::SLOT;
 use table::keep;
+use tries::after_try;
 use tries::attempt;
 use tries::next_try;
 use tries::step_at;
@@ -62,8 +63,8 @@ fn walk(
         let w = c.instr_at(s.position);
         let t = tries_of(w, c, m, s);
         let mut k = next_try(t, c, m, s, 0);
-        while k < 4113 {
-            let step = step_at(i, k);
+        while k.next < 4113 {
+            let step = step_at(i, k.next);
             let r = attempt(w, c, m, s, step);
             let answer = r.answer;
             if let StepAnswer::Taken = answer {
@@ -83,7 +84,7 @@ fn walk(
                     Ran::Out => return Ran::Out,
                 }
             }
-            k = next_try(t, c, m, s, k + 1);
+            k = after_try(t, c, m, s, k);
         }
         y.threads[i as usize] = s;
         i = next_open(p, x, i + 1);

@@ -8,11 +8,11 @@ use Rattle.certify.proofs.is_certified.Tie as tie
 certified-requires : tie.Need-certified-requires
 certified-requires c κs = search needs
 
-least-reached-requires : tie.Need-least-reached-requires
-least-reached-requires c κs = c .before .pre
+two-reached-requires : tie.Need-two-reached-requires
+two-reached-requires c κs = c .before .pre
 
 returns : tie.Need-returns
-returns c = found-certified _ _ _ _ _ (rw (c .before .certified .ensures) at (c .least-reached .ensures))
+returns c = found-certified _ _ _ _ _ (rw (c .before .before .certified .ensures) at (c .before .two-reached .ensures))
 
 pub is-certified-spec : {M : Type 1} → statement M
-is-certified-spec = tie.close (tie.spec certified-requires least-reached-requires returns)
+is-certified-spec = tie.close (tie.spec certified-requires two-reached-requires returns)

@@ -1,6 +1,7 @@
 -- `explore::next_reached` meets its contract.
 -- Assumes nothing.
 use Rattle.certify.proofs.Trying.{ready-promised, with-room}
+use Rattle.certify.proofs.Numbers.{two-least}
 use Rattle.explore.specs.Explored.{hole}
 use borrow.Author.Needs.{needs}
 use Rattle.explore.proofs.next_reached.Statement.{statement}
@@ -15,13 +16,13 @@ with-requires c κs = rw (c .append .ensures) (with-room _ _ _ (c .before .pre .
 with-promises-requires : tie.Need-with-promises-requires
 with-promises-requires c κs = search needs
 
-least-reached-requires : tie.Need-least-reached-requires
-least-reached-requires c κs = rw (c .with-promises .ensures, c .before .with .ensures, c .before .before .append .ensures) (ready-promised _ _ _ (c .before .before .before .pre .0) (c .before .before .before .pre .1) hole)
+two-reached-requires : tie.Need-two-reached-requires
+two-reached-requires c κs = rw (c .with-promises .ensures, c .before .with .ensures, c .before .before .append .ensures) (ready-promised _ _ _ (c .before .before .before .pre .0) (c .before .before .before .pre .1) hole)
 
 returns : tie.Need-returns
-returns c = rw (c .before .with-promises .ensures, c .before .before .with .ensures, c .before .before .before .append .ensures) at (c .least-reached .ensures)
+returns c = two-least _ _ _ _ (rw (c .before .with-promises .ensures, c .before .before .with .ensures, c .before .before .before .append .ensures) at (c .two-reached .ensures))
 
 pub next-reached-spec : {M : Type 1} → statement M
 next-reached-spec =
     tie.close
-    (tie.spec append-requires with-requires with-promises-requires least-reached-requires returns)
+    (tie.spec append-requires with-requires with-promises-requires two-reached-requires returns)

@@ -1,51 +1,35 @@
 -- `step::promise_step` meets its contract.
 -- Assumes nothing.
-use Rattle.certify.proofs.Trying.{ready-promised, with-room}
+use Rattle.certify.proofs.Trying.{ready-promised}
 use Rattle.step.proofs.Stepping.{promise-23, promise-24, promise-settles}
 use mathlib.Core.Path.{refl}
 use borrow.Author.Needs.{needs}
 use Rattle.step.proofs.promise_step.Statement.{statement}
 use Rattle.step.proofs.promise_step.Tie as tie
 
--- src/lib.rt:106:9
 stays-requires : tie.Need-stays-requires
 stays-requires c κs = search needs
 
--- src/lib.rt:106:9
 returns : tie.Need-returns
 returns c = promise-23 _ _ _ _ _ _ _ (c .before .if1 .taken) (c .stays .ensures)
 
--- src/lib.rt:109:9
 stays-requires-2 : tie.Need-stays-requires-2
 stays-requires-2 c κs = search needs
 
--- src/lib.rt:109:9
 returns-2 : tie.Need-returns-2
 returns-2 c = promise-24 _ _ _ _ _ _ _ (c .before .before .before .if1 .left) (c .before .if2 .taken) (c .stays2 .ensures)
 
--- src/lib.rt:111:46
-add-with : tie.Need-add-with
-add-with c = search needs
+promised-requires : tie.Need-promised-requires
+promised-requires c κs = (c .if2 .left, c .before .before .before .pre .promises-in)
 
--- src/lib.rt:111:29
-with-requires : tie.Need-with-requires
-with-requires c κs = with-room _ _ _ (c .before .before .before .before .pre) (c .before .if2 .left)
-
--- src/lib.rt:111:9
-with-promises-requires : tie.Need-with-promises-requires
-with-promises-requires c κs = search needs
-
--- src/lib.rt:117:18
 append-requires : tie.Need-append-requires
 append-requires c κs = search needs
 
--- src/lib.rt:117:5
 settle-requires : tie.Need-settle-requires
-settle-requires c κs = rw (c .append .ensures, c .before .with-promises .ensures, c .before .before .with .ensures) (ready-promised _ _ _ (c .before .before .before .before .before .before .before .pre) (c .before .before .before .before .if2 .left) _)
+settle-requires c κs = rw (c .append .ensures, c .before .promised .ensures) (ready-promised _ _ _ (c .before .before .before .before .before .pre) (c .before .before .if2 .left) _)
 
--- src/lib.rt:101:1
 returns-3 : tie.Need-returns-3
-returns-3 c = promise-settles _ _ _ _ _ _ (c .settle .result) (c .before .before .before .before .before .before .before .if1 .left) (c .before .before .before .before .before .if2 .left) _ refl (rw (c .before .append .ensures, c .before .before .with-promises .ensures, c .before .before .before .with .ensures) at (c .settle .ensures))
+returns-3 c = promise-settles _ _ _ _ _ _ (c .settle .result) (c .before .before .before .before .before .if1 .left) (c .before .before .before .if2 .left) _ refl (rw (c .before .append .ensures, c .before .before .promised .ensures) at (c .settle .ensures))
 
 pub promise-step-spec : {M : Type 1} → statement M
 promise-step-spec =
@@ -55,9 +39,7 @@ promise-step-spec =
     returns
     stays-requires-2
     returns-2
-    add-with
-    with-requires
-    with-promises-requires
+    promised-requires
     append-requires
     settle-requires
     returns-3)

@@ -2,17 +2,25 @@
 -- Assumes nothing.
 use native.Mathlib.Omega.{arith}
 use borrow.Author.Needs.{needs}
-use Rattle.step.proofs.Stepping.{kind-execute, kind-promise}
+use Rattle.step.proofs.Stepping.{kind-execute}
+use Rattle.tries.proofs.Worth.{is-promise, promise-kept}
 use Rattle.tries.proofs.attempt.Statement.{statement}
 use Rattle.tries.proofs.attempt.Tie as tie
 
 returns : tie.Need-returns
 returns c = kind-execute _ _ _ _ (c .execute-at .result) (c .before .if1 .taken) (c .before .before .before .pre .2 .0 (c .before .if1 .taken)) (c .execute-at .ensures)
 
+promise-kept-requires : tie.Need-promise-kept-requires
+promise-kept-requires c κs =
+    let o = c .before .before .pre in
+    let z = o .4 (is-promise (c .before .before .args .k) (o .2) (c .if1 .left)) in
+    (z .0, (z .1, o .0 .promises-in))
+
 returns-2 : tie.Need-returns-2
 returns-2 c =
-    let low = c .before .before .before .pre .2 .1 in
-    kind-promise _ _ _ _ (c .promise-step .result) (omega (arith, c .before .if1 .left)) (omega arith) (c .promise-step .ensures)
+    let o = c .before .before .before .pre in
+    let e = is-promise (c .before .before .before .args .k) (o .2) (c .before .if1 .left) in
+    promise-kept _ _ _ _ e (o .3) (o .4) (omega arith) (c .promise-kept .result) (c .promise-kept .ensures)
 
 pub attempt-spec : {M : Type 1} → statement M
-attempt-spec = tie.close (tie.spec (λ c κs. search needs) returns (λ c κs. search needs) returns-2)
+attempt-spec = tie.close (tie.spec (λ c κs. search needs) returns promise-kept-requires returns-2)

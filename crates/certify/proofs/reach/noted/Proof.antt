@@ -22,8 +22,8 @@ array-write-counted c = search needs
 smaller-requires : tie.Need-smaller-requires
 smaller-requires c κs = search needs
 
-add-t16 : tie.Need-add-t16
-add-t16 c = search needs
+add-t17 : tie.Need-add-t17
+add-t17 c = search needs
 
 forgetting-requires : tie.Need-forgetting-requires
 forgetting-requires c κs = search needs
@@ -37,8 +37,8 @@ enum-told c = search needs
 smaller-requires-2 : tie.Need-smaller-requires-2
 smaller-requires-2 c κs = search needs
 
-add-t21 : tie.Need-add-t21
-add-t21 c = search needs
+add-t22 : tie.Need-add-t22
+add-t22 c = search needs
 
 and-requires-2 : tie.Need-and-requires-2
 and-requires-2 c κs = search needs
@@ -76,12 +76,12 @@ noted-spec =
     mul-counted
     array-write-counted
     smaller-requires
-    add-t16
+    add-t17
     forgetting-requires
     and-requires
     enum-told
     smaller-requires-2
-    add-t21
+    add-t22
     and-requires-2
     enum-told-2
     enum-told-3

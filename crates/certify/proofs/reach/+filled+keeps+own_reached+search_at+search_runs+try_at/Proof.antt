@@ -1,0 +1,581 @@
+-- The cycle of `certify::reach::search_runs` meets its contracts: each instruction moves the position on.
+-- Assumes nothing.
+use mathlib.Core.Path.{_≡_, refl, _∙_}
+use Prim.Native.Nat.{_+_, _-_, _*_, _≤_}
+use native.Mathlib.Nat.{mod-lt}
+use native.Mathlib.Omega.{arith}
+use lib.Dec.{lit<}
+use lib.ListN.{length}
+use borrow.Author.Tests.{not-false}
+use borrow.Author.Needs.{needs}
+use Rattle.source.proofs.Arrays.{length-mapped}
+use Rattle.source.proofs.Counts.{there}
+use Rattle.machine.proofs.Cases.{ruled-done}
+use Rattle.machine.proofs.Effects.{effect}
+use Rattle.cares.specs.Cares.{Covers}
+use Rattle.certify.specs.Sought.{Better, same, Meets, Missed}
+use Rattle.certify.proofs.Trying.{ready-after, ready-own, reach-byte}
+use Rattle.certify.proofs.Plain.{leads-further, leads-ready}
+use Rattle.certify.proofs.Numbers.{better-on}
+use Rattle.certify.proofs.Finding.{covers-self, covers-on}
+use Rattle.certify.proofs.Filling.{fill-no-hole, fill-none, fill-unsought, fill-here, fill-fails, alone-kept, alone-lost, hole-time, trying-filled, keeps-refused, keeps-done}
+use Rattle.certify.proofs.Missing.{knows-none, missed-none, missed-on, went-refused, went-hopeless, went-found, went-on}
+use Rattle.certify.proofs.Owning.{owns-none, owns-untried, owns-stuck, owns-goes}
+use Rattle.certify.proofs.Reaching.{reach-end, reach-ended, fills-meets, tried-meets, owns-meets, reach-all, straight-kept, straight-ended, straight-found, further-by, further-own}
+use Prim.Native.Nat.{ℕ, _<_}
+use borrow.Fn.Kinds.{In}
+use borrow.Fn.PlainCycle.{Measures, is, falls, and}
+use Rattle.certify.proofs.reach.filled.Reads as filled
+use Rattle.certify.proofs.reach.filled.Kinds as filled-kinds
+use Rattle.certify.proofs.reach.+filled+keeps+own_reached+search_at+search_runs+try_at.Lts-filled as filled-lts
+use Rattle.certify.proofs.reach.keeps.Reads as keeps
+use Rattle.certify.proofs.reach.keeps.Kinds as keeps-kinds
+use Rattle.certify.proofs.reach.+filled+keeps+own_reached+search_at+search_runs+try_at.Lts-keeps as keeps-lts
+use Rattle.certify.proofs.reach.own_reached.Reads as own-reached
+use Rattle.certify.proofs.reach.own_reached.Kinds as own-reached-kinds
+use Rattle.certify.proofs.reach.+filled+keeps+own_reached+search_at+search_runs+try_at.Lts-own_reached as own-reached-lts
+use Rattle.certify.proofs.reach.search_at.Reads as search-at
+use Rattle.certify.proofs.reach.search_at.Kinds as search-at-kinds
+use Rattle.certify.proofs.reach.+filled+keeps+own_reached+search_at+search_runs+try_at.Lts-search_at as search-at-lts
+use Rattle.certify.proofs.reach.search_runs.Reads as search-runs
+use Rattle.certify.proofs.reach.search_runs.Kinds as search-runs-kinds
+use Rattle.certify.proofs.reach.+filled+keeps+own_reached+search_at+search_runs+try_at.Lts-search_runs as search-runs-lts
+use Rattle.certify.proofs.reach.try_at.Reads as try-at
+use Rattle.certify.proofs.reach.try_at.Kinds as try-at-kinds
+use Rattle.certify.proofs.reach.+filled+keeps+own_reached+search_at+search_runs+try_at.Lts-try_at as try-at-lts
+use Rattle.cares.proofs.Cares.and.Reads as and-reads
+use Rattle.cares.proofs.Cares.noting.Reads as noting-reads
+use Rattle.certify.proofs.Met.ended.Reads as ended-reads
+use Rattle.certify.proofs.Met.with.Reads as with-reads
+use Rattle.certify.proofs.Sought.after.Reads as after-reads
+use Rattle.certify.proofs.Sought.certified.Reads as certified-reads
+use Rattle.certify.proofs.Sought.seeks.Reads as seeks-reads
+use Rattle.certify.proofs.asks.asks.Reads as asks-reads
+use Rattle.certify.proofs.own_message.Reads as own-message-reads
+use Rattle.certify.proofs.reach.appends.Reads as appends-reads
+use Rattle.certify.proofs.reach.emptied.Reads as emptied-reads
+use Rattle.certify.proofs.reach.fill.Reads as fill-reads
+use Rattle.certify.proofs.reach.hopeless.Reads as hopeless-reads
+use Rattle.certify.proofs.reach.kept.Reads as kept-reads
+use Rattle.certify.proofs.reach.noted.Reads as noted-reads
+use Rattle.certify.proofs.reach.untried.Reads as untried-reads
+use Rattle.certify.proofs.straight.before_straight.Reads as before-straight-reads
+use Rattle.certify.proofs.straight.straight.Reads as straight-reads
+use Rattle.certify.proofs.window.earliest.Reads as earliest-reads
+use Rattle.certify.proofs.window.following.Reads as following-reads
+use Rattle.machine.proofs.Memory.append.Reads as append-reads
+use Rattle.machine.proofs.promises.has.Reads as has-reads
+use Rattle.rules.proofs.execute.Reads as execute-reads
+use Rattle.rules.proofs.operands.view_of.Reads as view-of-reads
+use Rattle.rules.proofs.own_store.Reads as own-store-reads
+use Rattle.source.proofs.Code.instr_at.Reads as instr-at-reads
+use Rattle.stores.proofs.below_time.Reads as below-time-reads
+use Rattle.certify.proofs.reach.+filled+keeps+own_reached+search_at+search_runs+try_at.{
+  statement,
+}
+use Rattle.certify.proofs.reach.+filled+keeps+own_reached+search_at+search_runs+try_at.Tie.{
+  close,
+}
+
+abbrev μ-filled : Measures 0 filled-kinds.ps ℕ
+μ-filled κs a = 5 * (20 - a .1 .1 .1 .0 .position) + 2
+
+abbrev μ-keeps : Measures 0 keeps-kinds.ps ℕ
+μ-keeps κs a = 5 * (20 - a .1 .1 .1 .0 .position) + 1
+
+abbrev μ-own-reached : Measures 0 own-reached-kinds.ps ℕ
+μ-own-reached κs a = 5 * (20 - a .1 .1 .1 .0 .position) + 1
+
+abbrev μ-search-at : Measures 0 search-at-kinds.ps ℕ
+μ-search-at κs a = 5 * (20 - a .1 .1 .1 .0 .position) + 3
+
+abbrev μ-search-runs : Measures 0 search-runs-kinds.ps ℕ
+μ-search-runs κs a = 5 * (20 - a .1 .1 .1 .0 .position) + 4
+
+abbrev μ-try-at : Measures 0 try-at-kinds.ps ℕ
+μ-try-at κs a = 5 * (20 - a .1 .1 .1 .0 .position) + 2
+
+abbrev filled-at : ℕ → In 0 filled-kinds.ps
+filled-at t = and 0 filled-kinds.ps (is 0 filled-kinds.ps μ-filled t) filled.Pre
+
+abbrev filled-below : ℕ → In 0 filled-kinds.ps
+filled-below t = and 0 filled-kinds.ps (falls 0 filled-kinds.ps _<_ μ-filled t) filled.Pre
+
+abbrev keeps-at : ℕ → In 0 keeps-kinds.ps
+keeps-at t = and 0 keeps-kinds.ps (is 0 keeps-kinds.ps μ-keeps t) keeps.Pre
+
+abbrev keeps-below : ℕ → In 0 keeps-kinds.ps
+keeps-below t = and 0 keeps-kinds.ps (falls 0 keeps-kinds.ps _<_ μ-keeps t) keeps.Pre
+
+abbrev own-reached-at : ℕ → In 0 own-reached-kinds.ps
+own-reached-at t =
+    and 0 own-reached-kinds.ps (is 0 own-reached-kinds.ps μ-own-reached t) own-reached.Pre
+
+abbrev own-reached-below : ℕ → In 0 own-reached-kinds.ps
+own-reached-below t =
+    and 0 own-reached-kinds.ps (falls 0 own-reached-kinds.ps _<_ μ-own-reached t) own-reached.Pre
+
+abbrev search-at-at : ℕ → In 0 search-at-kinds.ps
+search-at-at t = and 0 search-at-kinds.ps (is 0 search-at-kinds.ps μ-search-at t) search-at.Pre
+
+abbrev search-at-below : ℕ → In 0 search-at-kinds.ps
+search-at-below t =
+    and 0 search-at-kinds.ps (falls 0 search-at-kinds.ps _<_ μ-search-at t) search-at.Pre
+
+abbrev search-runs-at : ℕ → In 0 search-runs-kinds.ps
+search-runs-at t =
+    and 0 search-runs-kinds.ps (is 0 search-runs-kinds.ps μ-search-runs t) search-runs.Pre
+
+abbrev search-runs-below : ℕ → In 0 search-runs-kinds.ps
+search-runs-below t =
+    and 0 search-runs-kinds.ps (falls 0 search-runs-kinds.ps _<_ μ-search-runs t) search-runs.Pre
+
+abbrev try-at-at : ℕ → In 0 try-at-kinds.ps
+try-at-at t = and 0 try-at-kinds.ps (is 0 try-at-kinds.ps μ-try-at t) try-at.Pre
+
+abbrev try-at-below : ℕ → In 0 try-at-kinds.ps
+try-at-below t = and 0 try-at-kinds.ps (falls 0 try-at-kinds.ps _<_ μ-try-at t) try-at.Pre
+
+abbrev filled-claims : ℕ → filled-lts.Claims
+filled-claims t = (has-reads.Asked, has-reads.Learnt, own-message-reads.Asked, own-message-reads.Learnt, seeks-reads.Asked, seeks-reads.Learnt, with-reads.Asked, with-reads.Learnt, view-of-reads.Asked, view-of-reads.Learnt, below-time-reads.Asked, below-time-reads.Learnt, fill-reads.Asked, fill-reads.Learnt, keeps-below t, keeps.Post)
+
+abbrev keeps-claims : ℕ → keeps-lts.Claims
+keeps-claims t = (execute-reads.Asked, execute-reads.Learnt, certified-reads.Asked, certified-reads.Learnt, search-runs-below t, search-runs.Post)
+
+abbrev own-reached-claims : ℕ → own-reached-lts.Claims
+own-reached-claims t = (noting-reads.Asked, noting-reads.Learnt, own-store-reads.Asked, own-store-reads.Learnt, own-message-reads.Asked, own-message-reads.Learnt, append-reads.Asked, append-reads.Learnt, search-runs-below t, search-runs.Post, and-reads.Asked, and-reads.Learnt)
+
+abbrev search-at-claims : ℕ → search-at-lts.Claims
+search-at-claims t = (earliest-reads.Asked, earliest-reads.Learnt, filled-below t, filled.Post, untried-reads.Asked, untried-reads.Learnt, try-at-below t, try-at.Post, ended-reads.Asked, ended-reads.Learnt, following-reads.Asked, following-reads.Learnt, appends-reads.Asked, appends-reads.Learnt, after-reads.Asked, after-reads.Learnt, own-reached-below t, own-reached.Post, asks-reads.Asked, asks-reads.Learnt, and-reads.Asked, and-reads.Learnt)
+
+abbrev search-runs-claims : ℕ → search-runs-lts.Claims
+search-runs-claims t = (straight-reads.Asked, straight-reads.Learnt, kept-reads.Asked, kept-reads.Learnt, emptied-reads.Asked, emptied-reads.Learnt, before-straight-reads.Asked, before-straight-reads.Learnt, instr-at-reads.Asked, instr-at-reads.Learnt, search-at-below t, search-at.Post, ended-reads.Asked, ended-reads.Learnt)
+
+abbrev try-at-claims : ℕ → try-at-lts.Claims
+try-at-claims t = (hopeless-reads.Asked, hopeless-reads.Learnt, execute-reads.Asked, execute-reads.Learnt, after-reads.Asked, after-reads.Learnt, kept-reads.Asked, kept-reads.Learnt, emptied-reads.Asked, emptied-reads.Learnt, search-runs-below t, search-runs.Post, noted-reads.Asked, noted-reads.Learnt)
+
+places : (t : ℕ) (c : filled-lts.Start (filled-claims t) (filled-at t) filled.Post) → length (c .args .m .messages) ≡ 16
+places t c = search length-mapped depth 7
+
+filled-has-requires : (t : ℕ) → filled-lts.Need-has-requires (filled-claims t) (filled-at t) filled.Post
+filled-has-requires t c κs = search needs
+
+filled-returns : (t : ℕ) → filled-lts.Need-returns (filled-claims t) (filled-at t) filled.Post
+filled-returns t c = fill-no-hole _ _ _ _ _ (c .before .before .before .args .q) _ _ (c .before .has .ensures) (c .if1 .taken)
+
+filled-enum-known-x : (t : ℕ) → filled-lts.Need-enum-known-x (filled-claims t) (filled-at t) filled.Post
+filled-enum-known-x t c = search needs
+
+filled-own-message-requires : (t : ℕ) → filled-lts.Need-own-message-requires (filled-claims t) (filled-at t) filled.Post
+filled-own-message-requires t c κs = search needs
+
+filled-cast-number : (t : ℕ) → filled-lts.Need-cast-number (filled-claims t) (filled-at t) filled.Post
+filled-cast-number t c = search needs
+
+filled-mul-number : (t : ℕ) → filled-lts.Need-mul-number (filled-claims t) (filled-at t) filled.Post
+filled-mul-number t c = search needs
+
+filled-cast-number-2 : (t : ℕ) → filled-lts.Need-cast-number-2 (filled-claims t) (filled-at t) filled.Post
+filled-cast-number-2 t c = search needs
+
+filled-add-number : (t : ℕ) → filled-lts.Need-add-number (filled-claims t) (filled-at t) filled.Post
+filled-add-number t c = search needs
+
+filled-seeks-requires : (t : ℕ) → filled-lts.Need-seeks-requires (filled-claims t) (filled-at t) filled.Post
+filled-seeks-requires t c κs = search needs
+
+filled-returns-2 : (t : ℕ) → filled-lts.Need-returns-2 (filled-claims t) (filled-at t) filled.Post
+filled-returns-2 t c = fill-unsought _ _ _ _ _ (c .before .before .before .before .before .before .before .before .before .before .before .args .q) _ _ _ _ (c .before .before .before .before .before .before .x .given .1) _ (c .before .before .before .before .own-message .ensures) _ (c .before .seeks .ensures .1) (c .if2 .taken)
+
+filled-with-requires : (t : ℕ) → filled-lts.Need-with-requires (filled-claims t) (filled-at t) filled.Post
+filled-with-requires t c κs = search needs
+
+filled-view-of-requires : (t : ℕ) → filled-lts.Need-view-of-requires (filled-claims t) (filled-at t) filled.Post
+filled-view-of-requires t c κs = search needs
+
+filled-view-of-requires-2 : (t : ℕ) → filled-lts.Need-view-of-requires-2 (filled-claims t) (filled-at t) filled.Post
+filled-view-of-requires-2 t c κs = search needs
+
+filled-below-time-requires : (t : ℕ) → filled-lts.Need-below-time-requires (filled-claims t) (filled-at t) filled.Post
+filled-below-time-requires t c κs = rw (c .before .before .before .before .before .before .before .before .before .own-message .ensures) (mod-lt _ (lit< tt))
+
+filled-returns-3 : (t : ℕ) → filled-lts.Need-returns-3 (filled-claims t) (filled-at t) filled.Post
+filled-returns-3 t c = fill-here _ _ _ _ _ (c .before .before .before .before .before .before .before .before .before .before .before .before .before .before .before .before .before .before .args .q) _ _ _ _ (c .before .before .before .before .before .before .before .before .before .before .before .before .before .x .given .1) _ (c .before .before .before .before .before .before .before .before .before .before .before .own-message .ensures) _ refl (omega (arith, c .before .before .before .before .before .before .before .before .before .before .before .own-message .ok)) (c .before .before .before .before .before .before .before .before .seeks .ensures .0 (not-false _ (c .before .before .before .before .before .before .before .if2 .left))) _ (c .before .before .before .before .before .before .with .ensures) (alone-kept (c .before .before .before .before .before .before .before .before .before .before .before .before .before .before .before .before .before .before .args .c) _ (c .before .before .before .before .before .before .before .before .before .before .before .before .before .before .before .before .before .before .args .m) _ _ _ _ _ _ (c .before .before .before .before .before .before .before .before .before .before .before .own-message .ensures) _ (rw (c .before .before .before .view-of .ensures, c .before .before .view-of2 .ensures) at (c .before .below-time .ensures)) (c .before .before .before .before .before .before .before .before .before .before .before .before .before .before .before .before .before .before .pre .1 .ready .promises-in) (c .before .before .before .before .before .before .before .before .before .before .before .before .before .before .before .before .before .before .pre .1 .ready .room) (places t (c .before .before .before .before .before .before .before .before .before .before .before .before .before .before .before .before .before .before)) _ (c .before .before .before .before .before .before .before .before .before .before .before .before .before .before .before .before .has .ensures) (c .before .before .before .before .before .before .before .before .before .before .before .before .before .before .before .if1 .left) (c .before .before .before .before .if3 .taken) (c .if4 .taken))
+
+filled-returns-4 : (t : ℕ) → filled-lts.Need-returns-4 (filled-claims t) (filled-at t) filled.Post
+filled-returns-4 t c = fill-fails _ _ _ _ _ (c .before .before .before .before .before .before .before .before .before .before .before .before .before .before .before .before .before .before .args .q) _ _ _ _ (c .before .before .before .before .before .before .before .before .before .before .before .before .before .x .given .1) _ (c .before .before .before .before .before .before .before .before .before .before .before .own-message .ensures) _ refl (λ s' rests rep p. alone-lost (c .before .before .before .before .before .before .before .before .before .before .before .before .before .before .before .before .before .before .args .c) _ (c .before .before .before .before .before .before .before .before .before .before .before .before .before .before .before .before .before .before .args .m) _ _ _ _ _ _ (c .before .before .before .before .before .before .before .before .before .before .before .own-message .ensures) _ (rw (c .before .before .before .view-of .ensures, c .before .before .view-of2 .ensures) at (c .before .below-time .ensures)) (c .if4 .left) _ s' (rests .under) (λ o a' d' is. rep o a' d' (c .before .before .before .before .before .before .before .before .before .before .before .before .before .x .given .1 ∙ is)) p)
+
+filled-fill-requires : (t : ℕ) → filled-lts.Need-fill-requires (filled-claims t) (filled-at t) filled.Post
+filled-fill-requires t c κs = hole-time _ _ _ _ (c .before .before .before .before .before .before .before .before .before .before .before .before .before .before .pre .1) _ _ (c .before .before .before .before .before .before .before .before .before .before .before .before .has .ensures) (c .before .before .before .before .before .before .before .before .before .before .before .if1 .left)
+
+filled-keeps-requires : (t : ℕ) → filled-lts.Need-keeps-requires (filled-claims t) (filled-at t) filled.Post
+filled-keeps-requires t c κs = (omega (arith, c .before .before .before .before .before .before .before .before .before .before .before .before .before .before .before .pre .0), (trying-filled _ _ (c .before .before .before .before .before .before .before .before .before .before .before .before .before .before .before .pre .1) (c .fill .ensures) (c .before .before .before .before .before .before .before .before .before .before .x .given .1), record { mode = _; a = _; d = _; is-store = refl }))
+
+filled-returns-5 : (t : ℕ) → filled-lts.Need-returns-5 (filled-claims t) (filled-at t) filled.Post
+filled-returns-5 t c = fill-here _ _ _ _ _ (c .before .before .before .before .before .before .before .before .before .before .before .before .before .before .before .before .before .before .args .q) _ _ _ _ (c .before .before .before .before .before .before .before .before .before .before .before .before .before .x .given .1) _ (c .before .before .before .before .before .before .before .before .before .before .before .own-message .ensures) _ (c .before .before .before .fill .ensures) (omega (arith, c .before .before .before .before .before .before .before .before .before .before .before .own-message .ok)) (c .before .before .before .before .before .before .before .before .seeks .ensures .0 (not-false _ (c .before .before .before .before .before .before .before .if2 .left))) _ (c .before .before .before .before .before .before .with .ensures) (c .before .before .keeps .ensures .is-kept (c .if5 .taken))
+
+filled-enum-told : (t : ℕ) → filled-lts.Need-enum-told (filled-claims t) (filled-at t) filled.Post
+filled-enum-told t c = search needs
+
+filled-enum-told-2 : (t : ℕ) → filled-lts.Need-enum-told-2 (filled-claims t) (filled-at t) filled.Post
+filled-enum-told-2 t c = search needs
+
+filled-enum-told-3 : (t : ℕ) → filled-lts.Need-enum-told-3 (filled-claims t) (filled-at t) filled.Post
+filled-enum-told-3 t c = search needs
+
+filled-enum-told-4 : (t : ℕ) → filled-lts.Need-enum-told-4 (filled-claims t) (filled-at t) filled.Post
+filled-enum-told-4 t c = search needs
+
+filled-returns-6 : (t : ℕ) → filled-lts.Need-returns-6 (filled-claims t) (filled-at t) filled.Post
+filled-returns-6 t c = fill-fails _ _ _ _ _ (c .before .before .before .before .before .before .before .before .before .before .before .before .before .before .before .before .before .before .before .args .q) _ _ _ _ (c .before .before .before .before .before .before .before .before .before .before .before .before .before .before .x .given .1) _ (c .before .before .before .before .before .before .before .before .before .before .before .before .own-message .ensures) _ (c .before .before .before .before .fill .ensures) (λ s' rests rep p. c .before .before .before .keeps .ensures .is-lost (c .before .if5 .left) s' rests (λ o a' d' is. rep o a' d' (c .before .before .before .before .before .before .before .before .before .before .before .before .before .before .x .given .1 ∙ is)) p)
+
+filled-returns-7 : (t : ℕ) → filled-lts.Need-returns-7 (filled-claims t) (filled-at t) filled.Post
+filled-returns-7 t c = fill-none _ _ _ _ _ (c .before .before .before .before .before .args .q) _ (λ y. rw (c .enum-told .given .1))
+
+filled-returns-8 : (t : ℕ) → filled-lts.Need-returns-8 (filled-claims t) (filled-at t) filled.Post
+filled-returns-8 t c = fill-none _ _ _ _ _ (c .before .before .before .before .before .args .q) _ (λ y. rw (c .enum-told2 .given .1))
+
+filled-returns-9 : (t : ℕ) → filled-lts.Need-returns-9 (filled-claims t) (filled-at t) filled.Post
+filled-returns-9 t c = fill-none _ _ _ _ _ (c .before .before .before .before .before .args .q) _ (λ y. rw (c .enum-told3 .given .1))
+
+filled-returns-10 : (t : ℕ) → filled-lts.Need-returns-10 (filled-claims t) (filled-at t) filled.Post
+filled-returns-10 t c = fill-none _ _ _ _ _ (c .before .before .before .before .before .args .q) _ (λ y. rw (c .enum-told4 .given .1))
+
+keeps-execute-requires : (t : ℕ) → keeps-lts.Need-execute-requires (keeps-claims t) (keeps-at t) keeps.Post
+keeps-execute-requires t c κs = let w = c .pre .1 .0 in (reach-byte _ _ _ _ w, w .ready .room)
+
+keeps-enum-told : (t : ℕ) → keeps-lts.Need-enum-told (keeps-claims t) (keeps-at t) keeps.Post
+keeps-enum-told t c = search needs
+
+keeps-enum-told-2 : (t : ℕ) → keeps-lts.Need-enum-told-2 (keeps-claims t) (keeps-at t) keeps.Post
+keeps-enum-told-2 t c = search needs
+
+keeps-returns : (t : ℕ) → keeps-lts.Need-returns (keeps-claims t) (keeps-at t) keeps.Post
+keeps-returns t c = keeps-refused _ _ _ _ _ _ (c .before .before .before .pre .1 .1) _ (c .before .before .execute .ensures) _ (c .enum-told2 .given .1) _
+
+keeps-certified-requires : (t : ℕ) → keeps-lts.Need-certified-requires (keeps-claims t) (keeps-at t) keeps.Post
+keeps-certified-requires t c κs = search needs
+
+keeps-search-runs-requires : (t : ℕ) → keeps-lts.Need-search-runs-requires (keeps-claims t) (keeps-at t) keeps.Post
+keeps-search-runs-requires t c κs = let d = ruled-done _ _ _ (c .before .before .before .execute .ensures) (c .before .enum-told .given .1) in let f = further-by _ _ _ _ (c .before .before .before .before .pre .1 .0) _ _ d in (omega (arith, c .before .before .before .before .pre .0), ready-after (c .before .before .before .before .pre .1 .0 .ready) (effect _ _ _ _ _ d))
+
+keeps-returns-2 : (t : ℕ) → keeps-lts.Need-returns-2 (keeps-claims t) (keeps-at t) keeps.Post
+keeps-returns-2 t c = keeps-done _ _ _ _ _ _ (c .before .before .before .before .before .pre .1 .1) _ (c .before .before .before .before .execute .ensures) (c .before .before .enum-told .given .1) _ (rw (c .before .certified .ensures) at (c .search-runs .ensures))
+
+own-reached-returns : (t : ℕ) → own-reached-lts.Need-returns (own-reached-claims t) (own-reached-at t) own-reached.Post
+own-reached-returns t c = (owns-untried _ _ _ _ _ (c .before .before .args .q) _ _ (c .before .before .pre .1 .1) (c .if1 .taken), covers-self _)
+
+own-reached-enum-known-x : (t : ℕ) → own-reached-lts.Need-enum-known-x (own-reached-claims t) (own-reached-at t) own-reached.Post
+own-reached-enum-known-x t c = search needs
+
+own-reached-noting-requires : (t : ℕ) → own-reached-lts.Need-noting-requires (own-reached-claims t) (own-reached-at t) own-reached.Post
+own-reached-noting-requires t c κs = search needs
+
+own-reached-noting-requires-2 : (t : ℕ) → own-reached-lts.Need-noting-requires-2 (own-reached-claims t) (own-reached-at t) own-reached.Post
+own-reached-noting-requires-2 t c κs = search needs
+
+own-reached-own-store-requires : (t : ℕ) → own-reached-lts.Need-own-store-requires (own-reached-claims t) (own-reached-at t) own-reached.Post
+own-reached-own-store-requires t c κs = let w = c .before .before .before .before .before .before .before .pre .1 .0 in let h = reach-byte _ _ _ _ w in let l = w .ready .code-ok .short in let q = rw (c .before .before .before .x .given .1) at h in (omega arith, (c .before .before .before .before .before .before .before .pre .1 .1 .room (not-false _ (c .before .before .before .before .before .if1 .left)), w .ready .promises-in))
+
+own-reached-enum-told : (t : ℕ) → own-reached-lts.Need-enum-told (own-reached-claims t) (own-reached-at t) own-reached.Post
+own-reached-enum-told t c = search needs
+
+own-reached-enum-told-2 : (t : ℕ) → own-reached-lts.Need-enum-told-2 (own-reached-claims t) (own-reached-at t) own-reached.Post
+own-reached-enum-told-2 t c = search needs
+
+own-reached-returns-2 : (t : ℕ) → own-reached-lts.Need-returns-2 (own-reached-claims t) (own-reached-at t) own-reached.Post
+own-reached-returns-2 t c = (owns-stuck _ _ _ _ _ (c .before .before .before .before .before .before .before .before .before .before .args .q) (c .before .before .before .before .before .before .before .before .before .before .args .k) _ _ _ (c .before .before .before .before .before .before .x .given .1) (c .before .before .before .before .before .before .before .before .before .before .pre .1 .1 .room (not-false _ (c .before .before .before .before .before .before .before .before .if1 .left))) _ (c .before .before .own-store .ensures) _ (λ v w g. c .before .before .before .before .noting .ensures v w (c .before .before .before .noting2 .ensures v w g .0) .1) (λ v w g. c .before .before .before .noting2 .ensures v w g .1) _ (c .enum-told2 .given .1), record { agreeing = λ v w g. c .before .before .before .before .noting .ensures v w (c .before .before .before .noting2 .ensures v w g .0) .0 })
+
+own-reached-own-message-requires : (t : ℕ) → own-reached-lts.Need-own-message-requires (own-reached-claims t) (own-reached-at t) own-reached.Post
+own-reached-own-message-requires t c κs = search needs
+
+own-reached-append-requires : (t : ℕ) → own-reached-lts.Need-append-requires (own-reached-claims t) (own-reached-at t) own-reached.Post
+own-reached-append-requires t c κs = c .before .before .before .before .before .before .before .before .before .before .before .pre .1 .1 .room (not-false _ (c .before .before .before .before .before .before .before .before .before .if1 .left))
+
+own-reached-search-runs-requires : (t : ℕ) → own-reached-lts.Need-search-runs-requires (own-reached-claims t) (own-reached-at t) own-reached.Post
+own-reached-search-runs-requires t c κs = let f = further-own _ _ _ _ (c .before .before .before .before .before .before .before .before .before .before .before .before .pre .1 .0) _ _ _ (c .before .before .before .before .before .before .before .before .x .given .1) _ _ (c .before .before .before .before .own-store .ensures) (c .before .before .enum-told .given .1) in (omega (arith, c .before .before .before .before .before .before .before .before .before .before .before .before .pre .0), rw (c .append .ensures, c .before .own-message .ensures) (ready-own _ _ _ _ _ (c .before .before .before .before .before .before .before .before .before .before .before .before .pre .1 .0 .ready) (c .before .before .before .before .before .before .before .before .before .before .before .before .pre .1 .1 .room (not-false _ (c .before .before .before .before .before .before .before .before .before .before .if1 .left))) (ruled-done _ _ _ (c .before .before .before .before .own-store .ensures) (c .before .before .enum-told .given .1))))
+
+own-reached-and-requires : (t : ℕ) → own-reached-lts.Need-and-requires (own-reached-claims t) (own-reached-at t) own-reached.Post
+own-reached-and-requires t c κs = search needs
+
+own-reached-enum-told-3 : (t : ℕ) → own-reached-lts.Need-enum-told-3 (own-reached-claims t) (own-reached-at t) own-reached.Post
+own-reached-enum-told-3 t c = search needs
+
+own-reached-enum-told-4 : (t : ℕ) → own-reached-lts.Need-enum-told-4 (own-reached-claims t) (own-reached-at t) own-reached.Post
+own-reached-enum-told-4 t c = search needs
+
+own-reached-enum-told-5 : (t : ℕ) → own-reached-lts.Need-enum-told-5 (own-reached-claims t) (own-reached-at t) own-reached.Post
+own-reached-enum-told-5 t c = search needs
+
+own-reached-enum-told-6 : (t : ℕ) → own-reached-lts.Need-enum-told-6 (own-reached-claims t) (own-reached-at t) own-reached.Post
+own-reached-enum-told-6 t c = search needs
+
+own-reached-returns-3 : (t : ℕ) → own-reached-lts.Need-returns-3 (own-reached-claims t) (own-reached-at t) own-reached.Post
+own-reached-returns-3 t c = (owns-goes _ _ _ _ _ (c .before .before .before .before .before .before .before .before .before .before .before .before .before .before .before .before .args .q) (c .before .before .before .before .before .before .before .before .before .before .before .before .before .before .before .before .args .k) _ _ _ (c .before .before .before .before .before .before .before .before .before .before .before .before .x .given .1) (c .before .before .before .before .before .before .before .before .before .before .before .before .before .before .before .before .pre .1 .1 .room (not-false _ (c .before .before .before .before .before .before .before .before .before .before .before .before .before .before .if1 .left))) _ (c .before .before .before .before .before .before .before .before .own-store .ensures) _ (λ v w g. c .before .before .before .before .before .before .before .before .before .before .noting .ensures v w (c .before .before .before .before .before .before .before .before .before .noting2 .ensures v w g .0) .1) (λ v w g. c .before .before .before .before .before .before .before .before .before .noting2 .ensures v w g .1) _ (rw (c .before .before .before .before .append .ensures, c .before .before .before .before .before .own-message .ensures)) (c .before .before .before .before .before .before .enum-told .given .1) _ (c .before .before .before .search-runs .ensures) _ (c .and .ensures .0) (c .and .ensures .1), covers-on (c .and .ensures .1) (record { agreeing = λ v w g. c .before .before .before .before .before .before .before .before .before .before .noting .ensures v w (c .before .before .before .before .before .before .before .before .before .noting2 .ensures v w g .0) .0 }))
+
+own-reached-returns-4 : (t : ℕ) → own-reached-lts.Need-returns-4 (own-reached-claims t) (own-reached-at t) own-reached.Post
+own-reached-returns-4 t c = (owns-none _ _ _ _ _ (c .before .before .before .before .args .q) _ (λ y. rw (c .enum-told3 .given .1)), covers-self _)
+
+own-reached-returns-5 : (t : ℕ) → own-reached-lts.Need-returns-5 (own-reached-claims t) (own-reached-at t) own-reached.Post
+own-reached-returns-5 t c = (owns-none _ _ _ _ _ (c .before .before .before .before .args .q) _ (λ y. rw (c .enum-told4 .given .1)), covers-self _)
+
+own-reached-returns-6 : (t : ℕ) → own-reached-lts.Need-returns-6 (own-reached-claims t) (own-reached-at t) own-reached.Post
+own-reached-returns-6 t c = (owns-none _ _ _ _ _ (c .before .before .before .before .args .q) _ (λ y. rw (c .enum-told5 .given .1)), covers-self _)
+
+own-reached-returns-7 : (t : ℕ) → own-reached-lts.Need-returns-7 (own-reached-claims t) (own-reached-at t) own-reached.Post
+own-reached-returns-7 t c = (owns-none _ _ _ _ _ (c .before .before .before .before .args .q) _ (λ y. rw (c .enum-told6 .given .1)), covers-self _)
+
+abbrev search-at-Inv-loop : search-at-lts.InvT-loop
+search-at-Inv-loop c i m s x q t₀ r₀ t r = Missed c i m s x q r 0 t × (Better (q .from) (Meets c i m s (q .hole)) (r₀ .met) (r .met) × (Covers (r .cares .of) (r₀ .cares .of) × (t ≤ 17)))
+
+abbrev search-at-μ-loop : search-at-lts.MeasureT-loop
+search-at-μ-loop c i m s x q t₀ r₀ t r = 17 - t
+
+search-at-earliest-requires : (t : ℕ) → search-at-lts.Need-earliest-requires (search-at-claims t) (search-at-at t) search-at.Post search-at-Inv-loop search-at-μ-loop
+search-at-earliest-requires t c κs = c .pre .1 .0 .ready .room
+
+search-at-filled-requires : (t : ℕ) → search-at-lts.Need-filled-requires (search-at-claims t) (search-at-at t) search-at.Post search-at-Inv-loop search-at-μ-loop
+search-at-filled-requires t c κs = (omega (arith, c .before .pre .0), c .before .pre .1 .0)
+
+search-at-untried-requires : (t : ℕ) → search-at-lts.Need-untried-requires (search-at-claims t) (search-at-at t) search-at.Post search-at-Inv-loop search-at-μ-loop
+search-at-untried-requires t c κs = search needs
+
+search-at-loop-holds : (t : ℕ) → search-at-lts.Need-loop-holds (search-at-claims t) (search-at-at t) search-at.Post search-at-Inv-loop search-at-μ-loop
+search-at-loop-holds t c = (missed-none _ _ _ _ _ _ _ _ (knows-none _ _ _ _ _ _ (c .before .before .before .pre .1 .1 .halting) _ _ (c .untried .ensures)) (c .before .before .earliest .ensures), (same, (covers-self _, c .before .before .earliest .ensures .within)))
+
+search-at-try-at-requires : (t : ℕ) → search-at-lts.Need-try-at-requires (search-at-claims t) (search-at-at t) search-at.Post search-at-Inv-loop search-at-μ-loop
+search-at-try-at-requires t c κs = (omega (arith, c .before .before .before .before .before .pre .0), (c .before .before .before .before .before .pre .1 .0, (c .loop-test .taken, c .before .loop .inv .0 .knows)))
+
+search-at-ended-requires : (t : ℕ) → search-at-lts.Need-ended-requires (search-at-claims t) (search-at-at t) search-at.Post search-at-Inv-loop search-at-μ-loop
+search-at-ended-requires t c κs = search needs
+
+search-at-returns : (t : ℕ) → search-at-lts.Need-returns (search-at-claims t) (search-at-at t) search-at.Post search-at-Inv-loop search-at-μ-loop
+search-at-returns t c = reach-ended _ _ _ _ (c .before .before .before .before .before .before .before .before .before .before .args .q) _ (better-on (fills-meets _ _ _ _ (c .before .before .before .before .before .before .before .before .before .before .args .q) _ (c .before .before .before .before .before .before .before .before .before .before .pre .1 .0 .is-next) _ (c .before .before .before .before .before .before .before .before .filled .ensures)) (better-on (rw (c .before .before .before .before .before .before .before .untried .ensures) at (c .before .before .before .before .before .before .loop .inv .1 .0)) (tried-meets _ _ _ _ (c .before .before .before .before .before .before .before .before .before .before .args .q) _ (c .before .before .before .before .before .before .before .before .before .before .pre .1 .0 .is-next) _ (c .before .before .before .before .before .before .before .before .filled .ensures) _ (c .before .before .before .before .try-at .ensures .better)))) (c .before .before .ended .ensures (c .before .if1 .taken))
+
+search-at-following-requires : (t : ℕ) → search-at-lts.Need-following-requires (search-at-claims t) (search-at-at t) search-at.Post search-at-Inv-loop search-at-μ-loop
+search-at-following-requires t c κs = (c .before .before .before .before .before .before .before .before .before .pre .1 .0 .ready .room, c .before .before .before .before .loop-test .taken)
+
+search-at-loop-less : (t : ℕ) → search-at-lts.Need-loop-less (search-at-claims t) (search-at-at t) search-at.Post search-at-Inv-loop search-at-μ-loop
+search-at-loop-less t c = let l = c .before .before .before .before .before .loop-test .taken in let k = c .following .ensures .later in omega arith
+
+search-at-loop-again : (t : ℕ) → search-at-lts.Need-loop-again (search-at-claims t) (search-at-at t) search-at.Post search-at-Inv-loop search-at-μ-loop
+search-at-loop-again t c = (missed-on _ _ _ _ _ _ _ _ _ _ _ (c .before .before .before .before .before .before .loop .inv .0) (c .before .before .before .before .try-at .ensures) (c .following .ensures), (better-on (c .before .before .before .before .before .before .loop .inv .1 .0) (tried-meets _ _ _ _ (c .before .before .before .before .before .before .before .before .before .before .args .q) _ (c .before .before .before .before .before .before .before .before .before .before .pre .1 .0 .is-next) _ (c .before .before .before .before .before .before .before .before .filled .ensures) _ (c .before .before .before .before .try-at .ensures .better)), (covers-on (c .before .before .before .before .try-at .ensures .covers) (c .before .before .before .before .before .before .loop .inv .1 .1 .0), c .following .ensures .within)))
+
+search-at-appends-requires : (t : ℕ) → search-at-lts.Need-appends-requires (search-at-claims t) (search-at-at t) search-at.Post search-at-Inv-loop search-at-μ-loop
+search-at-appends-requires t c κs = let w = c .before .before .before .before .before .pre .1 .0 in let h = w .ready .code-ok .short in let l = there _ _ _ (w .is-next) .0 in (h, omega arith)
+
+search-at-after-requires : (t : ℕ) → search-at-lts.Need-after-requires (search-at-claims t) (search-at-at t) search-at.Post search-at-Inv-loop search-at-μ-loop
+search-at-after-requires t c κs = search needs
+
+search-at-own-reached-requires : (t : ℕ) → search-at-lts.Need-own-reached-requires (search-at-claims t) (search-at-at t) search-at.Post search-at-Inv-loop search-at-μ-loop
+search-at-own-reached-requires t c κs = (omega (arith, c .before .before .before .before .before .before .before .pre .0), (c .before .before .before .before .before .before .before .pre .1 .0, c .before .appends .ensures))
+
+search-at-ended-requires-2 : (t : ℕ) → search-at-lts.Need-ended-requires-2 (search-at-claims t) (search-at-at t) search-at.Post search-at-Inv-loop search-at-μ-loop
+search-at-ended-requires-2 t c κs = search needs
+
+search-at-returns-2 : (t : ℕ) → search-at-lts.Need-returns-2 (search-at-claims t) (search-at-at t) search-at.Post search-at-Inv-loop search-at-μ-loop
+search-at-returns-2 t c = reach-ended _ _ _ _ (c .before .before .before .before .before .before .before .before .before .before .before .args .q) _ (better-on (fills-meets _ _ _ _ (c .before .before .before .before .before .before .before .before .before .before .before .args .q) _ (c .before .before .before .before .before .before .before .before .before .before .before .pre .1 .0 .is-next) _ (c .before .before .before .before .before .before .before .before .before .filled .ensures)) (better-on (rw (c .before .before .before .before .before .before .before .before .untried .ensures) at (c .before .before .before .before .before .before .before .loop .inv .1 .0)) (owns-meets _ _ _ _ (c .before .before .before .before .before .before .before .before .before .before .before .args .q) _ (c .before .before .before .before .before .before .before .before .before .before .before .pre .1 .0 .is-next) _ (c .before .before .before .before .before .before .before .before .before .filled .ensures) ((rw (c .before .before .before .before .after .ensures) at (c .before .before .before .own-reached .ensures .0)) .better)))) (c .before .ended2 .ensures (c .if2 .taken))
+
+search-at-after-requires-2 : (t : ℕ) → search-at-lts.Need-after-requires-2 (search-at-claims t) (search-at-at t) search-at.Post search-at-Inv-loop search-at-μ-loop
+search-at-after-requires-2 t c κs = search needs
+
+search-at-asks-requires : (t : ℕ) → search-at-lts.Need-asks-requires (search-at-claims t) (search-at-at t) search-at.Post search-at-Inv-loop search-at-μ-loop
+search-at-asks-requires t c κs = c .before .before .before .before .before .before .before .before .before .before .before .before .before .pre .1 .0 .ready .room
+
+search-at-and-requires : (t : ℕ) → search-at-lts.Need-and-requires (search-at-claims t) (search-at-at t) search-at.Post search-at-Inv-loop search-at-μ-loop
+search-at-and-requires t c κs = search needs
+
+search-at-returns-3 : (t : ℕ) → search-at-lts.Need-returns-3 (search-at-claims t) (search-at-at t) search-at.Post search-at-Inv-loop search-at-μ-loop
+search-at-returns-3 t c = reach-all _ _ _ _ (c .before .before .before .before .before .before .before .before .before .before .before .before .before .before .before .args .q) _ (c .before .before .before .before .before .before .before .before .before .before .before .before .before .before .before .pre .1 .0 .is-next) _ (c .before .before .before .before .before .before .before .before .before .before .before .before .before .filled .ensures) (c .before .before .before .before .before .before .before .before .before .before .before .before .before .before .before .pre .1 .1) (c .before .before .before .before .before .before .before .before .before .before .before .before .before .before .before .pre .1 .0 .ready .room) _ _ (rw (c .before .before .before .before .before .before .before .before .before .before .before .before .untried .ensures) at (c .before .before .before .before .before .before .before .before .before .before .before .loop .inv .1 .0)) (rw (c .before .before .before .before .before .before .before .before .before .before .before .before .untried .ensures) at (c .before .before .before .before .before .before .before .before .before .before .before .loop .inv .1 .1 .0)) (c .before .before .before .before .before .before .before .before .before .before .before .loop .inv .0) (c .before .before .before .before .before .before .before .before .before .before .loop-test .left) _ (rw (c .before .before .before .before .before .before .before .before .after .ensures) at (c .before .before .before .before .before .before .before .own-reached .ensures .0)) (c .before .before .before .before .before .before .before .own-reached .ensures .1) _ (c .before .before .after2 .ensures) _ (c .before .asks .ensures) _ (c .and .ensures)
+
+search-runs-straight-requires : (t : ℕ) → search-runs-lts.Need-straight-requires (search-runs-claims t) (search-runs-at t) search-runs.Post
+search-runs-straight-requires t c κs = c .pre .1 .code-ok
+
+search-runs-kept-requires : (t : ℕ) → search-runs-lts.Need-kept-requires (search-runs-claims t) (search-runs-at t) search-runs.Post
+search-runs-kept-requires t c κs = search needs
+
+search-runs-emptied-requires : (t : ℕ) → search-runs-lts.Need-emptied-requires (search-runs-claims t) (search-runs-at t) search-runs.Post
+search-runs-emptied-requires t c κs = search needs
+
+search-runs-returns : (t : ℕ) → search-runs-lts.Need-returns (search-runs-claims t) (search-runs-at t) search-runs.Post
+search-runs-returns t c = straight-kept _ _ _ _ _ (c .before .before .before .straight .ensures) (c .before .before .before .before .args .q) (c .before .before .kept .ensures .0 (c .before .if1 .taken)) _ (c .emptied .ensures) _
+
+search-runs-before-straight-requires : (t : ℕ) → search-runs-lts.Need-before-straight-requires (search-runs-claims t) (search-runs-at t) search-runs.Post
+search-runs-before-straight-requires t c κs = c .before .before .before .before .before .before .before .pre .1 .code-ok
+
+search-runs-returns-2 : (t : ℕ) → search-runs-lts.Need-returns-2 (search-runs-claims t) (search-runs-at t) search-runs.Post
+search-runs-returns-2 t c = straight-found _ _ _ _ _ (c .before .before .before .before .before .before .before .straight .ensures) (c .before .before .before .before .before .before .before .before .args .q) _ (reach-end _ _ _ _ (c .before .before .before .before .before .before .before .before .args .q) (c .before .before .before .before .before .before .kept .ensures .1 (c .before .before .before .before .before .if1 .left)) (c .before .before .if2 .taken) _) _ (c .before-straight .ensures)
+
+search-runs-instr-at-requires : (t : ℕ) → search-runs-lts.Need-instr-at-requires (search-runs-claims t) (search-runs-at t) search-runs.Post
+search-runs-instr-at-requires t c κs = let h = c .before .before .before .before .before .before .pre .1 .code-ok .short in let l = c .if2 .left in (omega arith, l)
+
+search-runs-search-at-requires : (t : ℕ) → search-runs-lts.Need-search-at-requires (search-runs-claims t) (search-runs-at t) search-runs.Post
+search-runs-search-at-requires t c κs = let f = leads-further (c .before .before .before .before .before .before .straight .ensures .leads) in (omega (arith, c .before .before .before .before .before .before .before .pre .0), (record { ready = leads-ready (c .before .before .before .before .before .before .straight .ensures .leads) (c .before .before .before .before .before .before .before .pre .1); is-next = c .instr-at .ensures }, record { halting = c .before .before .before .before .before .before .straight .ensures .halts _ (c .instr-at .ensures); outstanding = c .before .before .before .before .before .kept .ensures .1 (c .before .before .before .before .if1 .left) }))
+
+search-runs-ended-requires : (t : ℕ) → search-runs-lts.Need-ended-requires (search-runs-claims t) (search-runs-at t) search-runs.Post
+search-runs-ended-requires t c κs = search needs
+
+search-runs-returns-3 : (t : ℕ) → search-runs-lts.Need-returns-3 (search-runs-claims t) (search-runs-at t) search-runs.Post
+search-runs-returns-3 t c = straight-ended _ _ _ _ _ (c .before .before .before .before .before .before .before .before .before .before .straight .ensures) (c .before .before .before .before .before .before .before .before .before .before .before .args .q) _ (c .before .before .before .search-at .ensures) (c .before .ended .ensures (c .if3 .taken))
+
+search-runs-before-straight-requires-2 : (t : ℕ) → search-runs-lts.Need-before-straight-requires-2 (search-runs-claims t) (search-runs-at t) search-runs.Post
+search-runs-before-straight-requires-2 t c κs = c .before .before .before .before .before .before .before .before .before .before .before .before .pre .1 .code-ok
+
+search-runs-returns-4 : (t : ℕ) → search-runs-lts.Need-returns-4 (search-runs-claims t) (search-runs-at t) search-runs.Post
+search-runs-returns-4 t c = straight-found _ _ _ _ _ (c .before .before .before .before .before .before .before .before .before .before .before .before .straight .ensures) (c .before .before .before .before .before .before .before .before .before .before .before .before .before .args .q) _ (c .before .before .before .before .before .search-at .ensures) _ (c .before-straight2 .ensures)
+
+try-at-hopeless-requires : (t : ℕ) → try-at-lts.Need-hopeless-requires (try-at-claims t) (try-at-at t) try-at.Post
+try-at-hopeless-requires t c κs = let w = c .pre .1 .0 in (w .ready .code-ok .short, (w .ready .room, c .pre .1 .1 .0))
+
+try-at-returns : (t : ℕ) → try-at-lts.Need-returns (try-at-claims t) (try-at-at t) try-at.Post
+try-at-returns t c = went-hopeless _ _ _ _ _ _ _ _ (c .before .before .pre .1 .1 .1) (c .before .before .pre .1 .0) (c .before .hopeless .ensures (c .if1 .taken))
+
+try-at-execute-requires : (t : ℕ) → try-at-lts.Need-execute-requires (try-at-claims t) (try-at-at t) try-at.Post
+try-at-execute-requires t c κs = let w = c .before .before .pre .1 .0 in (reach-byte _ _ _ _ w, w .ready .room)
+
+try-at-enum-told : (t : ℕ) → try-at-lts.Need-enum-told (try-at-claims t) (try-at-at t) try-at.Post
+try-at-enum-told t c = search needs
+
+try-at-enum-told-2 : (t : ℕ) → try-at-lts.Need-enum-told-2 (try-at-claims t) (try-at-at t) try-at.Post
+try-at-enum-told-2 t c = search needs
+
+try-at-returns-2 : (t : ℕ) → try-at-lts.Need-returns-2 (try-at-claims t) (try-at-at t) try-at.Post
+try-at-returns-2 t c = went-refused _ _ _ _ _ _ _ _ (c .before .before .before .before .before .pre .1 .1 .1) _ (c .before .before .execute .ensures) _ (c .enum-told2 .given .1)
+
+try-at-after-requires : (t : ℕ) → try-at-lts.Need-after-requires (try-at-claims t) (try-at-at t) try-at.Post
+try-at-after-requires t c κs = search needs
+
+try-at-kept-requires : (t : ℕ) → try-at-lts.Need-kept-requires (try-at-claims t) (try-at-at t) try-at.Post
+try-at-kept-requires t c κs = search needs
+
+try-at-emptied-requires : (t : ℕ) → try-at-lts.Need-emptied-requires (try-at-claims t) (try-at-at t) try-at.Post
+try-at-emptied-requires t c κs = search needs
+
+try-at-returns-3 : (t : ℕ) → try-at-lts.Need-returns-3 (try-at-claims t) (try-at-at t) try-at.Post
+try-at-returns-3 t c = went-found _ _ _ _ _ _ _ _ (c .before .before .before .before .before .before .before .before .before .before .before .pre .1 .1 .1) _ (ruled-done _ _ _ (c .before .before .before .before .before .before .before .before .execute .ensures) (c .before .before .before .before .before .before .enum-told .given .1)) (c .before .before .before .before .kept .ensures .0 (c .before .before .before .if2 .taken)) _ (rw (c .before .before .before .before .before .after .ensures) at (c .emptied .ensures))
+
+try-at-search-runs-requires : (t : ℕ) → try-at-lts.Need-search-runs-requires (try-at-claims t) (try-at-at t) try-at.Post
+try-at-search-runs-requires t c κs = let d = ruled-done _ _ _ (c .before .before .before .before .before .execute .ensures) (c .before .before .before .enum-told .given .1) in let f = further-by _ _ _ _ (c .before .before .before .before .before .before .before .before .pre .1 .0) _ _ d in (omega (arith, c .before .before .before .before .before .before .before .before .pre .0), ready-after (c .before .before .before .before .before .before .before .before .pre .1 .0 .ready) (effect _ _ _ _ _ d))
+
+try-at-noted-requires : (t : ℕ) → try-at-lts.Need-noted-requires (try-at-claims t) (try-at-at t) try-at.Post
+try-at-noted-requires t c κs = c .before .before .before .before .before .before .before .before .before .pre .1 .1 .0
+
+try-at-returns-4 : (t : ℕ) → try-at-lts.Need-returns-4 (try-at-claims t) (try-at-at t) try-at.Post
+try-at-returns-4 t c = went-on _ _ _ _ _ _ _ _ (c .before .before .before .before .before .before .before .before .before .before .pre .1 .1 .1) _ (ruled-done _ _ _ (c .before .before .before .before .before .before .before .execute .ensures) (c .before .before .before .before .before .enum-told .given .1)) _ (rw (c .before .before .before .before .after .ensures) at (c .before .search-runs .ensures)) _ (c .noted .ensures)
+
+pub +filled+keeps+own-reached+search-at+search-runs+try-at-spec : {M : Type 1} → statement M
++filled+keeps+own-reached+search-at+search-runs+try-at-spec =
+    close μ-filled μ-keeps μ-own-reached μ-search-at μ-search-runs μ-try-at (λ t. filled-lts.spec (filled-claims t) (filled-at t)
+    filled.Post
+    (filled-has-requires t)
+    (filled-returns t)
+    (filled-enum-known-x t)
+    (filled-own-message-requires t)
+    (filled-cast-number t)
+    (filled-mul-number t)
+    (filled-cast-number-2 t)
+    (filled-add-number t)
+    (filled-seeks-requires t)
+    (filled-returns-2 t)
+    (filled-with-requires t)
+    (filled-view-of-requires t)
+    (filled-view-of-requires-2 t)
+    (filled-below-time-requires t)
+    (filled-returns-3 t)
+    (filled-returns-4 t)
+    (filled-fill-requires t)
+    (filled-keeps-requires t)
+    (filled-returns-5 t)
+    (filled-enum-told t)
+    (filled-enum-told-2 t)
+    (filled-enum-told-3 t)
+    (filled-enum-told-4 t)
+    (filled-returns-6 t)
+    (filled-returns-7 t)
+    (filled-returns-8 t)
+    (filled-returns-9 t)
+    (filled-returns-10 t))
+    (λ t. keeps-lts.spec (keeps-claims t) (keeps-at t)
+    keeps.Post
+    (keeps-execute-requires t)
+    (keeps-enum-told t)
+    (keeps-enum-told-2 t)
+    (keeps-returns t)
+    (keeps-certified-requires t)
+    (keeps-search-runs-requires t)
+    (keeps-returns-2 t))
+    (λ t. own-reached-lts.spec (own-reached-claims t) (own-reached-at t)
+    own-reached.Post
+    (own-reached-returns t)
+    (own-reached-enum-known-x t)
+    (own-reached-noting-requires t)
+    (own-reached-noting-requires-2 t)
+    (own-reached-own-store-requires t)
+    (own-reached-enum-told t)
+    (own-reached-enum-told-2 t)
+    (own-reached-returns-2 t)
+    (own-reached-own-message-requires t)
+    (own-reached-append-requires t)
+    (own-reached-search-runs-requires t)
+    (own-reached-and-requires t)
+    (own-reached-enum-told-3 t)
+    (own-reached-enum-told-4 t)
+    (own-reached-enum-told-5 t)
+    (own-reached-enum-told-6 t)
+    (own-reached-returns-3 t)
+    (own-reached-returns-4 t)
+    (own-reached-returns-5 t)
+    (own-reached-returns-6 t)
+    (own-reached-returns-7 t))
+    (λ t. search-at-lts.spec (search-at-claims t) (search-at-at t)
+    search-at.Post
+    search-at-Inv-loop
+    search-at-μ-loop
+    (search-at-earliest-requires t)
+    (search-at-filled-requires t)
+    (search-at-untried-requires t)
+    (search-at-loop-holds t)
+    (search-at-try-at-requires t)
+    (search-at-ended-requires t)
+    (search-at-returns t)
+    (search-at-following-requires t)
+    (search-at-loop-less t)
+    (search-at-loop-again t)
+    (search-at-appends-requires t)
+    (search-at-after-requires t)
+    (search-at-own-reached-requires t)
+    (search-at-ended-requires-2 t)
+    (search-at-returns-2 t)
+    (search-at-after-requires-2 t)
+    (search-at-asks-requires t)
+    (search-at-and-requires t)
+    (search-at-returns-3 t))
+    (λ t. search-runs-lts.spec (search-runs-claims t) (search-runs-at t)
+    search-runs.Post
+    (search-runs-straight-requires t)
+    (search-runs-kept-requires t)
+    (search-runs-emptied-requires t)
+    (search-runs-returns t)
+    (search-runs-before-straight-requires t)
+    (search-runs-returns-2 t)
+    (search-runs-instr-at-requires t)
+    (search-runs-search-at-requires t)
+    (search-runs-ended-requires t)
+    (search-runs-returns-3 t)
+    (search-runs-before-straight-requires-2 t)
+    (search-runs-returns-4 t))
+    λ t. try-at-lts.spec (try-at-claims t) (try-at-at t)
+    try-at.Post
+    (try-at-hopeless-requires t)
+    (try-at-returns t)
+    (try-at-execute-requires t)
+    (try-at-enum-told t)
+    (try-at-enum-told-2 t)
+    (try-at-returns-2 t)
+    (try-at-after-requires t)
+    (try-at-kept-requires t)
+    (try-at-emptied-requires t)
+    (try-at-returns-3 t)
+    (try-at-search-runs-requires t)
+    (try-at-noted-requires t)
+    (try-at-returns-4 t)
