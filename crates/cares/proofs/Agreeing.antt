@@ -1,6 +1,6 @@
 -- What cares ask: a care of two values, the cares of all registers, and what is asked when the care for one register is replaced.
 -- Assumes nothing.
-use mathlib.Core.Path.{_≡_, sym, ap, subst, _∙_}
+use mathlib.Core.Path.{_≡_, refl, sym, ap, subst, _∙_}
 use mathlib.Core.Logic.{_⊎_, inl, inr}
 use mathlib.Core.List.{List, [], _∷_}
 use Prim.Native.Nat.{ℕ, zero, suc, _+_, _%_, _≤_, _<_}
@@ -8,7 +8,10 @@ use native.Mathlib.Decide.{ℕ-discrete, decLt}
 use native.Mathlib.Omega.{arith}
 use lib.ListN.{length, getD, set, List·getD-eq-default}
 use lib.Seq.{getD-set-same, getD-set-other}
-use Rattle.machine.specs.Rules.{address}
+use borrow.Author.Tests.{ne-eqb}
+use Rattle.source.specs.declared.Operand.the-variants.{OfRegister}
+use Rattle.source.specs.Program.{operand}
+use Rattle.machine.specs.Rules.{address, valueOf}
 use Rattle.machine.specs.declared.Thread.{Thread}
 use Rattle.source.proofs.Arrays.{getD-any}
 use Rattle.cares.specs.Cares.{Agrees, same, free, near, other, above, below, away, careOf, held, Agreeing, AgreeingBut, Covers}
@@ -106,6 +109,27 @@ module _ (cares : List ℕ) (n : ℕ) where
     -- so threads that agree by the new cares agree by the old, and in register n by the other
     pub noted : (s s' : Thread) → Agreeing (set cares n k) s s' → Agreeing cares s s' × Agrees care (held s n) (held s' n)
     noted s s' h = (λ j. keeps j _ _ (h j), adds _ _ (h n))
+
+-- ---- operands as their two bytes
+module _ (cares : List ℕ) (k n care : ℕ) where
+  -- a constant is the same in all threads
+  pub noted-constant : k ≡ 0 → (s s' : Thread) → Agreeing cares s s' → Agreeing cares s s' × Agrees care (valueOf s (operand k n)) (valueOf s' (operand k n))
+  unfolding operand
+  noted-constant e s s' a = rw e (a, same refl)
+
+  module _ (d : k ≡ 0 → ⊥) where
+    is-register : operand k n ≡ OfRegister n
+    unfolding operand
+    is-register = rw (ne-eqb k 0 d)
+
+    -- past the eight registers the value is asked for already
+    pub noted-past : length cares ≤ n → (s s' : Thread) → Agreeing cares s s' → Agreeing cares s s' × Agrees care (valueOf s (operand k n)) (valueOf s' (operand k n))
+    noted-past l s s' a = rw is-register (a, same (asked-past cares n l (a n)))
+
+    -- a register's care is joined with the care
+    pub noted-register : n < length cares → (j : ℕ) → ((x y : ℕ) → Agrees j x y → Agrees (getD cares n 0) x y × Agrees care x y)
+        → (s s' : Thread) → Agreeing (set cares n j) s s' → Agreeing cares s s' × Agrees care (valueOf s (operand k n)) (valueOf s' (operand k n))
+    noted-register l j joins s s' a = rw is-register (noted cares n l care j joins s s' a)
 
 -- ---- two lists of cares, joined register by register
 -- what is asked is what the first list asks and, below register n, what the second asks

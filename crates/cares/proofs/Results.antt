@@ -1,6 +1,6 @@
 -- What a result rests on: a computed value, or the way of a branch, by what the cares of the operands ask.
 -- Assumes nothing.
-use mathlib.Core.Path.{_≡_, refl, sym, ap, ap₂, _∙_}
+use mathlib.Core.Path.{_≡_, refl, sym, ap, ap₂, subst, _∙_}
 use mathlib.Core.Logic.{⊎-elim}
 use mathlib.Core.Bool.{Bool, true, false}
 use Prim.Native.Nat.{ℕ, _+_, _-_, _%_, _≤_, _<_}
@@ -8,6 +8,7 @@ use native.Mathlib.Nat.{add-comm}
 use native.Mathlib.Omega.{arith}
 use lib.Dec.{eqb}
 use borrow.Author.Tests.{ne-eqb}
+use Rattle.source.specs.Program.{computeMode}
 use Rattle.machine.specs.Rules.{address, combine, branchBy}
 use Rattle.source.specs.declared.ComputeMode.{ComputeMode}
 use Rattle.source.specs.declared.ComputeMode.the-variants.{Add}
@@ -28,6 +29,11 @@ sum-address x y = low (x + y) ∙ apart
 -- what is left of a sum without one operand is the other
 left-of-sum : (x y : ℕ) → x < 256 → ((x + y) % 256 + 256 - x) % 256 ≡ y % 256
 left-of-sum x y l = omega arith
+
+-- mode 0 is a sum
+pub is-sum : (m : ℕ) → m ≡ 0 → computeMode m ≡ Add
+unfolding computeMode
+is-sum m e = rw e
 
 module _ {x y x' y' : ℕ} where
   -- the same operands: the same result
@@ -87,3 +93,19 @@ module _ {v w x y x' y' : ℕ} (n : ℕ) (e : v ≡ x) (f : w ≡ y) (d : v ≡ 
   -- the second is the same, and the first is not that
   pub not-second : w < 256 → Agrees 2 y y' → Agrees (256 + w) x x' → branchBy (eqb x y) n ≡ branchBy (eqb x' y') n
   not-second b p q = let h = differ f b (λ g. d (e ∙ sym g)) p q in not-taken n (λ i. h .0 (sym i)) (λ i. h .1 (sym i))
+
+-- ---- what the operands hold, as a step tells it
+module _ {f g x y v w v' w' : ℕ} (e : x ≡ v) (e' : y ≡ w) (p : Agrees f v v') (q : Agrees g w w') where
+  pub result-told : {care k : ℕ} (how : ComputeMode) → k ≡ care → ((x' y' : ℕ) → Agrees f x x' → Agrees g y y' → Agrees k (combine how x y) (combine how x' y'))
+      → Agrees care (combine how v w) (combine how v' w')
+  result-told {k = k} how i shares =
+      subst (λ (z : ℕ). Agrees z (combine how v w) (combine how v' w')) i
+      (subst (λ (z : ℕ). Agrees k (combine how z w) (combine how v' w')) e
+      (subst (λ (z : ℕ). Agrees k (combine how x z) (combine how v' w')) e'
+      (shares v' w' (subst (λ (z : ℕ). Agrees f z v') (sym e) p) (subst (λ (z : ℕ). Agrees g z w') (sym e') q))))
+
+  pub way-told : (n : ℕ) → ((x' y' : ℕ) → Agrees f x x' → Agrees g y y' → branchBy (eqb x y) n ≡ branchBy (eqb x' y') n) → branchBy (eqb v w) n ≡ branchBy (eqb v' w') n
+  way-told n shares =
+      subst (λ (z : ℕ). branchBy (eqb z w) n ≡ branchBy (eqb v' w') n) e
+      (subst (λ (z : ℕ). branchBy (eqb x z) n ≡ branchBy (eqb v' w') n) e'
+      (shares v' w' (subst (λ (z : ℕ). Agrees f z v') (sym e) p) (subst (λ (z : ℕ). Agrees g z w') (sym e') q)))

@@ -1,12 +1,17 @@
 -- Cares: how much of what each register holds a failure rests on.
 -- Assumes nothing.
 use mathlib.Core.Path.{_≡_}
+use mathlib.Core.Bool.{false}
 use mathlib.Core.List.{List}
 use Prim.Native.Nat.{ℕ, _+_, _%_, _≤_, _<_}
 use lib.ListN.{getD}
 use Rattle.machine.specs.State.{freshRegister}
-use Rattle.machine.specs.Rules.{address}
+use Rattle.source.specs.declared.Instruction.{Instruction}
+use Rattle.source.specs.declared.Operand.{Operand}
+use Rattle.source.specs.Program.{noInstruction, operand}
+use Rattle.machine.specs.Rules.{address, valueOf}
 use Rattle.machine.specs.declared.Thread.{Thread}
+pub use Rattle.cares.specs.declared.before.Step.{Step}
 
 -- two values, of a thread that failed and of another, are the same as far as the care k asks: 0 for nothing, 1 for the value modulo 16, 256 + e for no more than that it is not e, 512 + e that it is e or more, 768 + e that it is less than e, 2048 + e that modulo 16 it is not e, any other for the value
 pub data Agrees (k x y : ℕ) : Type 0 where
@@ -37,3 +42,19 @@ AgreeingBut cares r s s' = (j : ℕ) → (j ≡ r → ⊥) → Agrees (careOf ca
 -- COVERS: threads that agree by the first cares agree by the second
 pub record Covers (cares cares' : List ℕ) : Type 0 where
   pub agreeing : (s s' : Thread) → Agreeing cares s s' → Agreeing cares' s s'
+
+-- the operands of an instruction
+abbrev pub firstOf : Instruction → Operand
+firstOf i = operand (i .k1) (i .n1)
+
+abbrev pub secondOf : Instruction → Operand
+secondOf i = operand (i .k2) (i .n2)
+
+-- what stands past the steps
+abbrev pub noStep : Step
+noStep = record { instruction = noInstruction; first = 0; second = 0; earlier = false }
+
+-- TELLS: the step has what the operands of its instruction hold in the thread
+pub record Tells (e : Step) (s : Thread) : Type 0 where
+  pub first-held : e .first ≡ valueOf s (firstOf (e .instruction))
+  pub second-held : e .second ≡ valueOf s (secondOf (e .instruction))

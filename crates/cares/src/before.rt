@@ -1,65 +1,173 @@
-// What a failure rests on before an instruction that has one way to go on, by what it rests on after it.
+// What a failure rests on before an instruction that has one way to go on, by what it rests on after it. The cares are changed in place.
 ghost use mathlib.Core.Path.{_≡_};
+ghost use Prim.Native.Nat.{ℕ};
 ghost use lib.Dec.{eqb};
+ghost use lib.ListN.{length};
+ghost use Rattle.source.specs.Program.{operand, computeMode};
 ghost use Rattle.machine.specs.Rules.{valueOf, combine, branchBy};
-ghost use Rattle.cares.specs.Cares.{Agrees, careOf, Agreeing, AgreeingBut};
-use crate::Cares;
+ghost use Rattle.cares.specs.Cares.{Agrees, careOf, Agreeing, AgreeingBut, firstOf, secondOf, noStep, Tells};
+use crate::joined;
 use machine::Thread;
-use rules::operands::value_of;
-use rules::operands::view_of;
-use source::ComputeMode;
-use source::Operand;
+use source::Instruction;
 
-// A sum modulo 16 rests on its operands modulo 16. That a sum is not e: the operand with the smaller view, which was most likely read
-// earlier, keeps its value, and the other is not what would be left of e. Any other result rests on the operands' values.
-pub fn before_compute(k: Cares, how: ComputeMode, r: u8, a: Operand, b: Operand, s: Thread) -> Cares
-    ensures { λ l. ⌜ ((s' : Thread) → Agreeing (l .of) s s'
-        → AgreeingBut (k .of) r s s' × Agrees (careOf (k .of) r) (combine how (valueOf s a) (valueOf s b)) (combine how (valueOf s' a) (valueOf s' b))) ⌝ }
-{
-    let care = k.of_register(r);
-    let rest = k.forgetting(r);
-    if care == 0 {
-        return rest;
-    }
-    match how {
-        ComputeMode::Add => {
-            if care == 1 {
-                return rest.noting(a, 1).noting(b, 1);
-            }
-            if care < 256 {
-                return rest.noting(a, 2).noting(b, 2);
-            }
-            if 511 < care {
-                return rest.noting(a, 2).noting(b, 2);
-            }
-            if view_of(s, a) <= view_of(s, b) {
-                let left = 256 + (care % 256 + 256 - value_of(s, a) as u16) % 256;
-                return rest.noting(a, 2).noting(b, left);
-            }
-            let left = 256 + (care % 256 + 256 - value_of(s, b) as u16) % 256;
-            rest.noting(b, 2).noting(a, left)
+// An instruction that a thread has gone through: what its operands held, and whether the first has a view that is at most the second's, so
+// that it was most likely read earlier.
+pub struct Step {
+    pub instruction: Instruction,
+    pub first: u8,
+    pub second: u8,
+    pub earlier: bool,
+}
+
+impl Step {
+    // What stands past the steps.
+    pub fn none() -> Step
+        ensures { λ r. ⌜ r ≡ noStep ⌝ }
+    {
+        let nothing = Instruction {
+            op: 0,
+            m: 0,
+            r: 0,
+            k1: 0,
+            n1: 0,
+            k2: 0,
+            n2: 0,
+        };
+        Step {
+            instruction: nothing,
+            first: 0,
+            second: 0,
+            earlier: false,
         }
-        ComputeMode::Subtract => rest.noting(a, 2).noting(b, 2),
-        ComputeMode::ExclusiveOr => rest.noting(a, 2).noting(b, 2),
-        ComputeMode::Equal => rest.noting(a, 2).noting(b, 2),
     }
 }
 
-// Where the operands differ, the one with the smaller view keeps its value, and the other is not that.
-pub fn before_branch(k: Cares, n: u8, a: Operand, b: Operand, s: Thread) -> Cares
-    ensures { λ l. ⌜ ((s' : Thread) → Agreeing (l .of) s s'
-        → Agreeing (k .of) s s' × (branchBy (eqb (valueOf s a) (valueOf s b)) n ≡ branchBy (eqb (valueOf s' a) (valueOf s' b)) n)) ⌝ }
+// The care for an instruction's first operand, and for its second.
+pub struct Shares {
+    pub first: u16,
+    pub second: u16,
+}
+
+// The same care for both.
+fn both(k: u16) -> Shares
+    ensures { λ r. ⌜ (r .first ≡ k) × (r .second ≡ k) ⌝ }
+{
+    Shares {
+        first: k,
+        second: k,
+    }
+}
+
+// A sum modulo 16 rests on its operands modulo 16. That a sum is not e: the operand that was read earlier keeps its value, and the other is
+// not what would be left of e. Any other result rests on the operands' values.
+fn compute_shares(care: u16, m: u8, x: u8, y: u8, earlier: bool) -> Shares
+    ensures { λ r. ⌜ ((x' y' : ℕ) → Agrees (r .first) x x' → Agrees (r .second) y y' → Agrees care (combine (computeMode m) x y) (combine (computeMode m) x' y')) ⌝ }
+{
+    if care == 0 {
+        return both(0);
+    }
+    if m != 0 {
+        return both(2);
+    }
+    if care == 1 {
+        return both(1);
+    }
+    if care < 256 {
+        return both(2);
+    }
+    if 511 < care {
+        return both(2);
+    }
+    if earlier {
+        let left = 256 + (care % 256 + 256 - x as u16) % 256;
+        return Shares {
+            first: 2,
+            second: left,
+        };
+    }
+    let left = 256 + (care % 256 + 256 - y as u16) % 256;
+    Shares {
+        first: left,
+        second: 2,
+    }
+}
+
+// Where the operands differ, the one that was read earlier keeps its value, and the other is not that.
+fn branch_shares(n: u8, x: u8, y: u8, earlier: bool) -> Shares
+    ensures { λ r. ⌜ ((x' y' : ℕ) → Agrees (r .first) x x' → Agrees (r .second) y y' → branchBy (eqb x y) n ≡ branchBy (eqb x' y') n) ⌝ }
 {
     if n == 0 {
-        return k;
+        return both(0);
     }
-    let x = value_of(s, a);
-    let y = value_of(s, b);
     if x == y {
-        return k.noting(a, 2).noting(b, 2);
+        return both(2);
     }
-    if view_of(s, a) <= view_of(s, b) {
-        return k.noting(a, 2).noting(b, 256 + x as u16);
+    if earlier {
+        return Shares {
+            first: 2,
+            second: 256 + x as u16,
+        };
     }
-    k.noting(b, 2).noting(a, 256 + y as u16)
+    Shares {
+        first: 256 + y as u16,
+        second: 2,
+    }
+}
+
+// The care for register r, which is about to be written: what it held does not count.
+fn take(of: &mut [u16; 8], r: u8) -> u16
+    requires { ⌜ length (now of) ≡ 8 ⌝ }
+    ensures { λ k. ⌜ length (now (of .exit)) ≡ 8 ⌝ }
+    ensures { λ k. ⌜ (k ≡ careOf (now (of .entry)) r) × ((s s' : Thread) → Agreeing (now (of .exit)) s s' → AgreeingBut (now (of .entry)) r s s') ⌝ }
+{
+    if 8 <= r {
+        return 2;
+    }
+    let care = of[r as usize];
+    of[r as usize] = 0;
+    care
+}
+
+// The operand (k, n) counts too, as the care says.
+fn note(of: &mut [u16; 8], k: u8, n: u8, care: u16)
+    requires { ⌜ length (now of) ≡ 8 ⌝ }
+    ensures { λ _. ⌜ length (now (of .exit)) ≡ 8 ⌝ }
+    ensures { λ _. ⌜ ((s s' : Thread) → Agreeing (now (of .exit)) s s' → Agreeing (now (of .entry)) s s' × Agrees care (valueOf s (operand k n)) (valueOf s' (operand k n))) ⌝ }
+{
+    if k == 0 {
+        return;
+    }
+    if 8 <= n {
+        return;
+    }
+    of[n as usize] = joined(of[n as usize], care);
+}
+
+// Before a compute.
+pub fn before_compute(of: &mut [u16; 8], e: Step)
+    requires { ⌜ length (now of) ≡ 8 ⌝ }
+    ensures { λ _. ⌜ length (now (of .exit)) ≡ 8 ⌝ }
+    ensures { λ _. ⌜ ((s s' : Thread) → Tells e s → Agreeing (now (of .exit)) s s'
+        → AgreeingBut (now (of .entry)) (e .instruction .r) s s'
+        × Agrees (careOf (now (of .entry)) (e .instruction .r)) (combine (computeMode (e .instruction .m)) (valueOf s (firstOf (e .instruction))) (valueOf s (secondOf (e .instruction)))) (combine (computeMode (e .instruction .m)) (valueOf s' (firstOf (e .instruction))) (valueOf s' (secondOf (e .instruction))))) ⌝ }
+{
+    let i = e.instruction;
+    let care = take(of, i.r);
+    let shares = compute_shares(care, i.m, e.first, e.second, e.earlier);
+    note(of, i.k1, i.n1, shares.first);
+    note(of, i.k2, i.n2, shares.second);
+}
+
+// Before a branch.
+pub fn before_branch(of: &mut [u16; 8], e: Step)
+    requires { ⌜ length (now of) ≡ 8 ⌝ }
+    ensures { λ _. ⌜ length (now (of .exit)) ≡ 8 ⌝ }
+    ensures { λ _. ⌜ ((s s' : Thread) → Tells e s → Agreeing (now (of .exit)) s s'
+        → Agreeing (now (of .entry)) s s'
+        × (branchBy (eqb (valueOf s (firstOf (e .instruction))) (valueOf s (secondOf (e .instruction)))) (e .instruction .m) ≡ branchBy (eqb (valueOf s' (firstOf (e .instruction))) (valueOf s' (secondOf (e .instruction)))) (e .instruction .m))) ⌝ }
+{
+    let i = e.instruction;
+    let shares = branch_shares(i.m, e.first, e.second, e.earlier);
+    note(of, i.k1, i.n1, shares.first);
+    note(of, i.k2, i.n2, shares.second);
 }

@@ -3,22 +3,19 @@
 use mathlib.Core.Path.{_≡_, refl, sym, ap, subst, _∙_}
 use mathlib.Core.List.{List}
 use mathlib.Core.Option.{some, Option·some-injective}
-use Prim.Native.Nat.{ℕ, _-_, _≤_, _<_}
-use native.Mathlib.Omega.{arith}
+use Prim.Native.Nat.{ℕ}
 use lib.Dec.{eqb}
 use Rattle.source.specs.Program.{instrAt}
-use Rattle.machine.specs.State.{freshMemory}
 use Rattle.machine.specs.Rules.{valueOf, combine, computeDone, branchBy, branchDone, fenceDone}
-use Rattle.machine.proofs.Effects.{moves}
 use Rattle.cares.specs.Cares.{Agrees, careOf, Agreeing, AgreeingBut}
 use Rattle.certify.specs.Below.{Code, Operand, ComputeMode, FenceMode, Instr, Compute, Branch, Fence, Thread}
 use Rattle.certify.specs.Straight.{plainly, Leads, here, on, Halts}
 use Rattle.certify.specs.Under.{Rests}
-use Rattle.certify.proofs.Plain.{no-thread, plain-effect, plain-compute, plain-branch, plain-fence}
+use Rattle.certify.proofs.Plain.{no-thread, plain-compute, plain-branch, plain-fence}
 use Rattle.certify.proofs.Resting.{compute-rests, branch-rests, fence-rests}
 
 -- where is so before them what rests by r, is so after them what rests by k
-abbrev Backwards : Code → Thread → List ℕ → List ℕ → Type 0
+abbrev pub Backwards : Code → Thread → List ℕ → List ℕ → Type 0
 Backwards c s k r = (s' y : Thread) → Rests r s s' → Leads c s y → Halts c y → (y' : Thread) × (Leads c s' y' × Rests k y y')
 
 module _ (c : Code) (s : Thread) (k : List ℕ) where
@@ -66,7 +63,3 @@ module _ (c : Code) (s : Thread) (k : List ℕ) where
     back-fence how is e same =
         back-on (plain-fence x s s₁ is e) (λ s' rests.
         (fenceDone how s', (plain-fence x s' (fenceDone how s') is refl, subst (λ (y : Thread). Rests q y (fenceDone how s')) (sym e) (fence-rests how s s' q (subst (λ (v : List ℕ). Rests v s s') same rests)))))
-
--- the position comes nearer to the end, so that this ends
-pub nearer : (c : Code) (s s₁ : Thread) → c .count ≤ 16 → s .position < c .count → (x : Instr) → plainly x s ≡ some s₁ → 20 - s₁ .position < 20 - s .position
-nearer c s s₁ short before x e = let h = moves (plain-effect x s s₁ e freshMemory) in omega arith

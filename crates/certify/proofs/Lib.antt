@@ -13,6 +13,7 @@ pub mod Resting
 pub mod Numbers
 pub mod Plain
 pub mod Backwards
+pub mod Walking
 pub mod Finding
 pub mod Filling
 pub mod Asking

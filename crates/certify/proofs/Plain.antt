@@ -131,7 +131,7 @@ pub halts-at : (c : Code) (s : Thread) (x : Instr) → instrAt c (s .position) �
 halts-at c s x g e x' g' = subst (λ (y : Instr). plainly y s ≡ none) (Option·some-injective x x' (sym g ∙ g')) e
 
 -- the op byte of a load or store
-op-halts : (i : Instruction) (s : Thread) (n : ℕ) → (n ≡ 1) ⊎ (n ≡ 2)
+pub op-halts : (i : Instruction) (s : Thread) (n : ℕ) → (n ≡ 1) ⊎ (n ≡ 2)
     → plainly (cond (eqb n 0) (Compute (computeMode (i .m)) (i .r) (operand (i .k1) (i .n1)) (operand (i .k2) (i .n2)))
     (cond (eqb n 1) (Load (loadMode (i .m)) (i .r) (operand (i .k1) (i .n1)) (operand (i .k2) (i .n2)))
     (cond (eqb n 2) (Store (storeMode (i .m)) (operand (i .k1) (i .n1)) (operand (i .k2) (i .n2)))

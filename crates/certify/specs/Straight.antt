@@ -2,9 +2,16 @@
 -- Assumes nothing.
 use mathlib.Core.Path.{_≡_}
 use mathlib.Core.Option.{Option, none, some}
-use Rattle.source.specs.Program.{instrAt}
-use Rattle.machine.specs.Rules.{computeDone, branchDone, fenceDone}
-use Rattle.certify.specs.Below.{Code, Instr, Compute, Load, Store, Branch, Fence, Thread}
+use mathlib.Core.List.{List}
+use Prim.Native.Nat.{ℕ, suc, max, _≤_}
+use lib.Dec.{leb}
+use lib.ListN.{getD}
+use Rattle.source.specs.declared.Instruction.{Instruction}
+use Rattle.source.specs.Program.{computeMode, instructionAt, instrAt}
+use Rattle.machine.specs.Rules.{combine, computeDone, branchDone, fenceDone}
+use Rattle.cares.specs.Cares.{noStep, Tells}
+pub use Rattle.cares.specs.declared.before.Step.{Step}
+use Rattle.certify.specs.Below.{Code, Instr, Compute, Load, Store, Branch, Fence, Register, Thread}
 
 -- what such an instruction leaves
 unfoldable pub plainly : Instr → Thread → Option Thread
@@ -27,3 +34,28 @@ Halts c s = (x : Instr) → instrAt c (s .position) ≡ some x → plainly x s �
 pub record Ran (c : Code) (s r : Thread) : Type 0 where
   pub leads : Leads c s r
   pub halts : Halts c r
+
+-- what a compute of mode m leaves in its register
+abbrev pub resultOf : ℕ → Register → Register → Register
+resultOf m a b = record { value = combine (computeMode m) (a .value) (b .value); view = max (a .view) (b .view) }
+
+-- the step over an instruction, with what its operands are
+abbrev pub stepOver : Instruction → Register → Register → Step
+stepOver i a b = record { instruction = i; first = a .value; second = b .value; earlier = leb (a .view) (b .view) }
+
+-- the step number j
+abbrev pub stepAt : List Step → ℕ → Step
+stepAt steps j = getD steps j noStep
+
+-- WALKED: by j such instructions the thread s comes to be the other, and the steps tell of each
+pub data Walked (c : Code) (s : Thread) (steps : List Step) : ℕ → Thread → Type 0 where
+  start : Walked c s steps 0 s
+  further : {j : ℕ} {y y' : Thread} (x : Instr) → Walked c s steps j y → instrAt c (y .position) ≡ some x → plainly x y ≡ some y'
+      → (stepAt steps j) .instruction ≡ instructionAt c (y .position) → Tells (stepAt steps j) y → Walked c s steps (suc j) y'
+
+-- as far as they go
+pub record Gone (c : Code) (s : Thread) (steps : List Step) (j : ℕ) : Type 0 where
+  pub at : Thread
+  pub walked : Walked c s steps j at
+  pub halts : Halts c at
+  pub few : j ≤ 16

@@ -15,8 +15,8 @@ pub struct Message {
 
 // The messages at times 1, 2, .. `count`; the other entries are 0.
 pub struct Memory {
-    pub count: u8,
     pub messages: [Message; 16],
+    pub count: u8,
 }
 
 pub struct Register {

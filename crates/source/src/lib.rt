@@ -18,8 +18,8 @@ pub struct Instruction {
 
 // A thread's instructions: the first `count` entries; the others are 0.
 pub struct Code {
-    pub count: u8,
     pub instructions: [Instruction; 16],
+    pub count: u8,
 }
 
 // Kind 0: register `index` of `thread` has `value`; kind 1: location `index` ends with `value`.
@@ -31,11 +31,11 @@ pub struct Condition {
 }
 
 pub struct Program {
+    pub codes: [Code; 4],
+    pub question: [Condition; 8],
     pub version: u8,
     pub threads: u8,
-    pub codes: [Code; 4],
     pub conditions: u8,
-    pub question: [Condition; 8],
 }
 
 pub enum Operand {

@@ -1,0 +1,289 @@
+-- Going through instructions that have one way to go on with the position and the registers alone, and the way back.
+-- Assumes nothing.
+use mathlib.Core.Path.{_≡_, refl, sym, ap, subst, _∙_}
+use mathlib.Core.Logic.{_⊎_, inl, inr}
+use mathlib.Core.Bool.{Bool, true, false, _||_}
+use mathlib.Core.List.{List}
+use mathlib.Core.Option.{some, Option·some-injective}
+use Prim.Native.Nat.{ℕ, suc, _+_, _-_, _%_, _≤_, _<_}
+use native.Mathlib.Omega.{arith}
+use lib.Dec.{eqb}
+use lib.ListN.{length, length-set, getD, set, List·getD-eq-default}
+use lib.Seq.{set-out, getD-set-same, getD-set-other}
+use borrow.Author.Tests.{lt-ltb, eq-eqb, ne-eqb}
+use Rattle.source.specs.declared.Instruction.{Instruction}
+use Rattle.source.specs.Program.{operand, computeMode, fenceMode, decode, instructionAt, instrAt}
+use Rattle.source.proofs.Counts.{there}
+use Rattle.source.proofs.Formed.{CodeOk}
+use Rattle.machine.specs.State.{freshRegister}
+use Rattle.machine.specs.Rules.{valueOf, viewOf, combine, computeDone, branchBy, branchDone, fenceDone}
+use Rattle.cares.specs.Cares.{Agrees, careOf, Agreeing, AgreeingBut, firstOf, secondOf, noStep, Tells}
+use Rattle.certify.specs.Below.{Code, OfRegister, Instr, Compute, Branch, Fence, Register, Thread}
+use Rattle.certify.specs.Straight.{Step, resultOf, stepOver, stepAt, plainly, Halts, Walked, start, further, Gone}
+use Rattle.certify.proofs.Plain.{no-thread, plain-compute, plain-branch, plain-fence, op-halts}
+use Rattle.certify.proofs.Backwards.{Backwards, back-halted, back-compute, back-branch, back-fence}
+
+-- ---- operands as their two bytes
+module _ (s : Thread) (k n : ℕ) where
+  pub held-constant : k ≡ 0 → (n ≡ valueOf s (operand k n)) × (0 ≡ viewOf s (operand k n))
+  unfolding operand
+  held-constant e = rw e (refl, refl)
+
+  is-register : (k ≡ 0 → ⊥) → operand k n ≡ OfRegister n
+  unfolding operand
+  is-register d = rw (ne-eqb k 0 d)
+
+  pub held-register : (k ≡ 0 → ⊥) → n < 8 → (r : Register) → r ≡ getD (s .registers) (n % 8) freshRegister → (r .value ≡ valueOf s (operand k n)) × (r .view ≡ viewOf s (operand k n))
+  held-register d l r e =
+      let h : n % 8 ≡ n = omega arith in
+      let g : r ≡ getD (s .registers) n freshRegister = e ∙ ap (λ (j : ℕ). getD (s .registers) j freshRegister) h in
+      rw (is-register d) (ap (λ (x : Register). x .value) g, ap (λ (x : Register). x .view) g)
+
+  pub held-past : (k ≡ 0 → ⊥) → length (s .registers) ≤ n → (0 ≡ valueOf s (operand k n)) × (0 ≡ viewOf s (operand k n))
+  held-past d l =
+      let g = sym (List·getD-eq-default (s .registers) freshRegister {n = n} l) in
+      rw (is-register d) (ap (λ (x : Register). x .value) g, ap (λ (x : Register). x .view) g)
+
+-- ---- the op byte
+module _ (i : Instruction) where
+  pub op-compute : i .op ≡ 0 → decode i ≡ Compute (computeMode (i .m)) (i .r) (firstOf i) (secondOf i)
+  unfolding decode
+  op-compute e = rw e refl
+
+  pub op-branch : i .op ≡ 3 → decode i ≡ Branch (i .m) (firstOf i) (secondOf i)
+  unfolding decode
+  op-branch e = rw e refl
+
+  pub op-fence : (i .op ≡ 0 → ⊥) → (i .op ≡ 1 → ⊥) → (i .op ≡ 2 → ⊥) → (i .op ≡ 3 → ⊥) → decode i ≡ Fence (fenceMode (i .m))
+  unfolding decode
+  op-fence a b c d = rw (ne-eqb (i .op) 0 a, ne-eqb (i .op) 1 b, ne-eqb (i .op) 2 c, ne-eqb (i .op) 3 d) refl
+
+  -- a plain instruction that is neither a compute nor a branch is a fence
+  pub op-plain : (y y' : Thread) → plainly (decode i) y ≡ some y' → (i .op ≡ 0 → ⊥) → (i .op ≡ 3 → ⊥) → decode i ≡ Fence (fenceMode (i .m))
+  unfolding decode
+  op-plain y y' e a d = op-fence a (λ h. no-thread (sym (op-halts i y (i .op) (inl h)) ∙ e)) (λ h. no-thread (sym (op-halts i y (i .op) (inr h)) ∙ e)) d
+
+  -- a byte that is none of the four is a fence's
+  pub op-rest : (eqb (i .op) 1 || eqb (i .op) 2) ≡ false → (i .op ≡ 0 → ⊥) → (i .op ≡ 3 → ⊥) → decode i ≡ Fence (fenceMode (i .m))
+  op-rest h a d = op-fence a (λ e. go (eqb (i .op) 1) (eqb (i .op) 2) (inl (eq-eqb (i .op) 1 e)) h) (λ e. go (eqb (i .op) 1) (eqb (i .op) 2) (inr (eq-eqb (i .op) 2 e)) h) d
+    where
+      go : (p q : Bool) → (p ≡ true) ⊎ (q ≡ true) → (p || q) ≡ false → ⊥
+      go p q (inl e) h = let z : _≡_ {A = ℕ} 0 1 = cc in omega arith
+      go true q (inr e) h = let z : _≡_ {A = ℕ} 0 1 = cc in omega arith
+      go false q (inr e) h = let z : _≡_ {A = ℕ} 0 1 = cc in omega arith
+
+module _ (c : Code) (n : ℕ) (l : n < c .count) where
+  instr-is : instrAt c n ≡ some (decode (instructionAt c n))
+  unfolding instrAt
+  instr-is = rw (lt-ltb n (c .count) l) refl
+
+  -- a branch lands in the code or at its end
+  pub branch-lands : CodeOk c → (instructionAt c n) .op ≡ 3 → n + suc ((instructionAt c n) .m) ≤ c .count
+  branch-lands o e = o .lands n ((instructionAt c n) .m) (firstOf (instructionAt c n)) (secondOf (instructionAt c n)) (instr-is ∙ ap some (op-branch (instructionAt c n) e))
+
+-- ---- on the way
+-- where the thread is that the position and the registers stand for
+pub record Going (c : Code) (s : Thread) (steps : List Step) (j n : ℕ) (registers : List Register) : Type 0 where
+  pub at : Thread
+  pub walked : Walked c s steps j at
+  pub there-is : at .position ≡ n
+  pub hold : at .registers ≡ registers
+
+-- the same for every thread that starts at position n₀ with registers₀
+pub record On (c : Code) (registers₀ : List Register) (n₀ : ℕ) (registers : List Register) (n : ℕ) (steps : List Step) (j : ℕ) : Type 0 where
+  pub far : j ≤ n
+  pub few : j ≤ 16
+  pub steps-long : length steps ≡ 16
+  pub registers-long : length registers ≡ 8
+  pub going : (s : Thread) → s .position ≡ n₀ → s .registers ≡ registers₀ → Going c s steps j n registers
+
+-- a step that is put in later does not count
+kept-steps : {c : Code} {s : Thread} {steps : List Step} (j : ℕ) (e : Step) {k : ℕ} {y : Thread} → k ≤ j → Walked c s steps k y → Walked c s (set steps j e) k y
+kept-steps j e l start = start
+kept-steps {c} {s} {steps} j e l (further {j = k} {y = y} x w g p i t) =
+    let same : stepAt (set steps j e) k ≡ stepAt steps k = getD-set-other steps j k e noStep (λ h. omega arith) in
+    further x (kept-steps j e (omega arith) w) g p (ap (λ (v : Step). v .instruction) same ∙ i) (subst (λ (v : Step). Tells v y) (sym same) t)
+
+-- one more instruction
+module _ {c : Code} {registers₀ registers : List Register} {n₀ n j : ℕ} {steps : List Step} (o : On c registers₀ n₀ registers n steps j) (l : n < c .count) (short : c .count ≤ 16) (e : Step)
+    (is : e .instruction ≡ instructionAt c n) (told : (y : Thread) → y .registers ≡ registers → Tells e y) (n' : ℕ) (further-on : n < n') (registers' : List Register) (long : length registers' ≡ 8)
+    (moved : (y : Thread) → y .position ≡ n → y .registers ≡ registers → (y' : Thread) × ((plainly (decode (e .instruction)) y ≡ some y') × ((y' .position ≡ n') × (y' .registers ≡ registers')))) where
+  instr-there : instrAt c n ≡ some (decode (e .instruction))
+  instr-there = instr-is c n l ∙ ap (λ (i : Instruction). some (decode i)) (sym is)
+
+  one-more : {s : Thread} → Going c s steps j n registers → Going c s (set steps j e) (suc j) n' registers'
+  one-more {s} g =
+      let y = g .at in
+      let w = moved y (g .there-is) (g .hold) in
+      let q : n ≡ y .position = sym (g .there-is) in
+      let here : stepAt (set steps j e) j ≡ e = (let f = o .far in let h = o .steps-long in getD-set-same steps j e noStep (omega arith)) in
+      record {
+        at = w .0;
+        walked = further (decode (e .instruction)) (kept-steps j e (omega arith) (g .walked)) (ap (instrAt c) (g .there-is) ∙ instr-there) (w .1 .0) (ap (λ (v : Step). v .instruction) here ∙ is ∙ ap (instructionAt c) q)
+            (subst (λ (v : Step). Tells v y) (sym here) (told y (g .hold)));
+        there-is = w .1 .1 .0;
+        hold = w .1 .1 .1;
+      }
+
+  on-more : On c registers₀ n₀ registers' n' (set steps j e) (j + 1)
+  on-more =
+      let f = o .far in
+      let h : suc j ≡ j + 1 = omega arith in
+      record {
+        far = omega arith;
+        few = omega arith;
+        steps-long = length-set steps j e ∙ o .steps-long;
+        registers-long = long;
+        going = λ s p q. subst (λ (k : ℕ). Going c s (set steps j e) k n' registers') h (one-more (o .going s p q));
+      }
+
+-- ---- what an instruction makes of position and registers
+-- what is found for the operands of i is what they are in y
+pub record Operands (i : Instruction) (a b : Register) (y : Thread) : Type 0 where
+  pub first : (a .value ≡ valueOf y (firstOf i)) × (a .view ≡ viewOf y (firstOf i))
+  pub second : (b .value ≡ valueOf y (secondOf i)) × (b .view ≡ viewOf y (secondOf i))
+
+module _ (i : Instruction) (a b : Register) {n : ℕ} {registers : List Register} (y : Thread) (p : y .position ≡ n) (q : y .registers ≡ registers) where
+  pub moved-compute : Operands i a b y → i .op ≡ 0 → {v : Register} → v ≡ resultOf (i .m) a b
+      → (y' : Thread) × ((plainly (decode i) y ≡ some y') × ((y' .position ≡ n + 1) × (y' .registers ≡ set registers (i .r) v)))
+  moved-compute f e h =
+      let y' = computeDone (computeMode (i .m)) (i .r) (firstOf i) (secondOf i) y in
+      (y', (plain-compute (decode i) y y' (op-compute i e) refl, (ap (λ (m : ℕ). m + 1) p, rw (h, f .first .0, f .first .1, f .second .0, f .second .1, q))))
+
+  pub moved-branch : Operands i a b y → i .op ≡ 3 → {m : ℕ} → m ≡ branchBy (eqb (a .value) (b .value)) (i .m)
+      → (y' : Thread) × ((plainly (decode i) y ≡ some y') × ((y' .position ≡ n + m) × (y' .registers ≡ registers)))
+  moved-branch f e h =
+      let y' = branchDone (i .m) (firstOf i) (secondOf i) y in
+      (y', (plain-branch (decode i) y y' (op-branch i e) refl, (rw (h, f .first .0, f .second .0, p), q)))
+
+  pub moved-fence : decode i ≡ Fence (fenceMode (i .m)) → (y' : Thread) × ((plainly (decode i) y ≡ some y') × ((y' .position ≡ n + 1) × (y' .registers ≡ registers)))
+  moved-fence e =
+      let y' = fenceDone (fenceMode (i .m)) y in
+      (y', (plain-fence (decode i) y y' e refl, (ap (λ (m : ℕ). m + 1) p, q)))
+
+-- ---- one turn of the loop: the instruction at n, its operands a and b, and the step that tells of it
+pub record Turn (c : Code) (registers₀ : List Register) (n₀ : ℕ) (registers : List Register) (n : ℕ) (steps : List Step) (j : ℕ) (a b : Register) (step : Step) : Type 0 where
+  pub tells : step ≡ stepOver (instructionAt c n) a b
+  pub on : On c registers₀ n₀ registers n steps j
+  pub inside : n < c .count
+  pub short : c .count ≤ 16
+  pub first-found : (y : Thread) → length (y .registers) ≡ 8 → getD registers ((instructionAt c n) .n1 % 8) freshRegister ≡ getD (y .registers) ((instructionAt c n) .n1 % 8) freshRegister
+      → (a .value ≡ valueOf y (firstOf (instructionAt c n))) × (a .view ≡ viewOf y (firstOf (instructionAt c n)))
+  pub second-found : (y : Thread) → length (y .registers) ≡ 8 → getD registers ((instructionAt c n) .n2 % 8) freshRegister ≡ getD (y .registers) ((instructionAt c n) .n2 % 8) freshRegister
+      → (b .value ≡ valueOf y (secondOf (instructionAt c n))) × (b .view ≡ viewOf y (secondOf (instructionAt c n)))
+
+module _ {c : Code} {registers₀ : List Register} {n₀ : ℕ} {registers : List Register} {n : ℕ} {steps : List Step} {j : ℕ} {a b : Register} {step : Step} (u : Turn c registers₀ n₀ registers n steps j a b step) where
+  abbrev here : Instruction
+  here = instructionAt c n
+
+  found : (y : Thread) → y .registers ≡ registers → Operands here a b y
+  found y q =
+      let h = ap length q ∙ u .on .registers-long in
+      record {
+        first = u .first-found y h (ap (λ (l : List Register). getD l (here .n1 % 8) freshRegister) (sym q));
+        second = u .second-found y h (ap (λ (l : List Register). getD l (here .n2 % 8) freshRegister) (sym q));
+      }
+
+  told : (y : Thread) → y .registers ≡ registers → Tells (stepOver here a b) y
+  told y q = let f = found y q in record { first-held = f .first .0; second-held = f .second .0 }
+
+  turned : (n' : ℕ) → n < n' → (registers' : List Register) → length registers' ≡ 8
+      → ((y : Thread) → y .position ≡ n → y .registers ≡ registers → (y' : Thread) × ((plainly (decode here) y ≡ some y') × ((y' .position ≡ n') × (y' .registers ≡ registers'))))
+      → On c registers₀ n₀ registers' n' (set steps j step) (j + 1)
+  turned n' l registers' long moved =
+      subst (λ (e : Step). On c registers₀ n₀ registers' n' (set steps j e) (j + 1)) (sym (u .tells))
+      (on-more (u .on) (u .inside) (u .short) (stepOver here a b) refl told n' l registers' long moved)
+
+  pub turn-compute : here .op ≡ 0 → (v : Register) → v ≡ resultOf (here .m) a b → On c registers₀ n₀ (set registers (here .r) v) (n + 1) (set steps j step) (j + 1)
+  turn-compute e v h =
+      turned (n + 1) (omega arith) (set registers (here .r) v) (length-set registers (here .r) v ∙ u .on .registers-long) (λ y p q. moved-compute here a b y p q (found y q) e h)
+
+  -- a register past the eight is not written
+  pub turn-past : here .op ≡ 0 → 8 ≤ here .r → On c registers₀ n₀ registers (n + 1) (set steps j step) (j + 1)
+  turn-past e l =
+      let v = resultOf (here .m) a b in
+      let h = u .on .registers-long in
+      subst (λ (g : List Register). On c registers₀ n₀ g (n + 1) (set steps j step) (j + 1)) (set-out registers (here .r) v (omega arith)) (turn-compute e v refl)
+
+  pub turn-branch : here .op ≡ 3 → (m : ℕ) → 0 < m → m ≡ branchBy (eqb (a .value) (b .value)) (here .m) → On c registers₀ n₀ registers (n + m) (set steps j step) (j + 1)
+  turn-branch e m z h = turned (n + m) (omega arith) registers (u .on .registers-long) (λ y p q. moved-branch here a b y p q (found y q) e h)
+
+  pub turn-fence : decode here ≡ Fence (fenceMode (here .m)) → On c registers₀ n₀ registers (n + 1) (set steps j step) (j + 1)
+  turn-fence e = turned (n + 1) (omega arith) registers (u .on .registers-long) (λ y p q. moved-fence here a b y p q e)
+
+-- ---- the ends of the way
+pub on-start : (c : Code) (registers : List Register) (n : ℕ) (steps : List Step) → length steps ≡ 16 → length registers ≡ 8 → On c registers n registers n steps 0
+on-start c registers n steps l h =
+    record { far = omega arith; few = omega arith; steps-long = l; registers-long = h; going = λ s p q. record { at = s; walked = start; there-is = p; hold = q } }
+
+pub on-gone : {c : Code} {s : Thread} {registers : List Register} {n : ℕ} {steps : List Step} {j : ℕ} → On c (s .registers) (s .position) registers n steps j
+    → ((y : Thread) → y .position ≡ n → Halts c y) → Gone c s steps j
+on-gone {s = s} o halted = let g = o .going s refl refl in record { at = g .at; walked = g .walked; halts = halted (g .at) (g .there-is); few = o .few }
+
+-- ---- the way back
+-- one step back: the thread before the last of the steps, and the cares there
+pub record Back (c : Code) (s : Thread) (steps : List Step) (j : ℕ) (k cares : List ℕ) : Type 0 where
+  pub from : Thread
+  pub came : Walked c s steps j from
+  pub backwards : Backwards c from k cares
+
+module _ (c : Code) (s : Thread) (steps : List Step) (j : ℕ) (k q r : List ℕ) where
+  back-step : ((y y' : Thread) → plainly (decode ((stepAt steps j) .instruction)) y ≡ some y' → Tells (stepAt steps j) y → instrAt c (y .position) ≡ some (decode ((stepAt steps j) .instruction)) → Backwards c y' k q → Backwards c y k r)
+      → Back c s steps (suc j) k q → Back c s steps j k r
+  back-step by b = go (b .came) (b .backwards)
+    where
+      go : {z : Thread} → Walked c s steps (suc j) z → Backwards c z k q → Back c s steps j k r
+      go (further {y = y} {y' = y'} x w g p i t) rec =
+          let is : x ≡ decode ((stepAt steps j) .instruction) = sym (there c (y .position) x g .1) ∙ ap decode (sym i) in
+          record { from = y; came = w; backwards = by y y' (subst (λ (v : Instr). plainly v y ≡ some y') is p) t (g ∙ ap some is) rec }
+
+module _ (steps : List Step) (n : ℕ) (q r : List ℕ) (l : 0 < n) where
+  abbrev last : Step
+  last = stepAt steps (n - 1)
+
+  -- for any code and thread
+  abbrev pub BackOne : Type 0
+  BackOne = (c : Code) (s : Thread) (k : List ℕ) → Back c s steps n k q → Back c s steps (n - 1) k r
+
+  one-back : ((c : Code) (k : List ℕ) (y y' : Thread) → plainly (decode (last .instruction)) y ≡ some y' → Tells last y → instrAt c (y .position) ≡ some (decode (last .instruction)) → Backwards c y' k q → Backwards c y k r) → BackOne
+  one-back by c s k b =
+      let e : n ≡ suc (n - 1) = omega arith in
+      back-step c s steps (n - 1) k q r (by c k) (subst (λ (m : ℕ). Back c s steps m k q) e b)
+
+  pub one-compute-back : last .instruction .op ≡ 0
+      → ((s s' : Thread) → Tells last s → Agreeing r s s' → AgreeingBut q (last .instruction .r) s s'
+      × Agrees (careOf q (last .instruction .r)) (combine (computeMode (last .instruction .m)) (valueOf s (firstOf (last .instruction))) (valueOf s (secondOf (last .instruction)))) (combine (computeMode (last .instruction .m)) (valueOf s' (firstOf (last .instruction))) (valueOf s' (secondOf (last .instruction)))))
+      → BackOne
+  one-compute-back e cares = one-back (λ c k y y' p t g rec.
+      let i = last .instruction in
+      let is = op-compute i e in
+      let z = computeDone (computeMode (i .m)) (i .r) (firstOf i) (secondOf i) y in
+      back-compute c y k (decode i) g y' q rec r (computeMode (i .m)) (i .r) (firstOf i) (secondOf i) is (Option·some-injective y' z (sym p ∙ plain-compute (decode i) y z is refl)) (λ s'. cares y s' t))
+
+  pub one-branch-back : last .instruction .op ≡ 3
+      → ((s s' : Thread) → Tells last s → Agreeing r s s' → Agreeing q s s'
+      × (branchBy (eqb (valueOf s (firstOf (last .instruction))) (valueOf s (secondOf (last .instruction)))) (last .instruction .m) ≡ branchBy (eqb (valueOf s' (firstOf (last .instruction))) (valueOf s' (secondOf (last .instruction)))) (last .instruction .m)))
+      → BackOne
+  one-branch-back e cares = one-back (λ c k y y' p t g rec.
+      let i = last .instruction in
+      let is = op-branch i e in
+      let z = branchDone (i .m) (firstOf i) (secondOf i) y in
+      back-branch c y k (decode i) g y' q rec r (i .m) (firstOf i) (secondOf i) is (Option·some-injective y' z (sym p ∙ plain-branch (decode i) y z is refl)) (λ s'. cares y s' t))
+
+  pub one-fence-back : (last .instruction .op ≡ 0 → ⊥) → (last .instruction .op ≡ 3 → ⊥) → r ≡ q → BackOne
+  one-fence-back a d same = one-back (λ c k y y' p t g rec.
+      let i = last .instruction in
+      let is = op-plain i y y' p a d in
+      let z = fenceDone (fenceMode (i .m)) y in
+      back-fence c y k (decode i) g y' q rec r (fenceMode (i .m)) is (Option·some-injective y' z (sym p ∙ plain-fence (decode i) y z is refl)) same)
+
+-- where it starts, and where it ends
+pub back-start : (c : Code) (s : Thread) (steps : List Step) (n : ℕ) (k : List ℕ) → Gone c s steps n → Back c s steps n k k
+back-start c s steps n k g = record { from = g .at; came = g .walked; backwards = back-halted c (g .at) k (g .halts) }
+
+pub back-end : (c : Code) (s : Thread) (steps : List Step) (n : ℕ) (k r : List ℕ) → n ≡ 0 → Back c s steps n k r → Backwards c s k r
+back-end c s steps n k r e b = go e (b .came) (b .backwards)
+  where
+    go : {m : ℕ} {y : Thread} → m ≡ 0 → Walked c s steps m y → Backwards c y k r → Backwards c s k r
+    go e start w = w
+    go e (further x w g p i t) rec = absurd (omega arith)

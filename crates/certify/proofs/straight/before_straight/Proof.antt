@@ -1,0 +1,90 @@
+-- `certify::straight::before_straight` meets its contract: step by step back, the last first.
+-- Assumes nothing.
+use mathlib.Core.Path.{_≡_, refl}
+use Prim.Native.Nat.{_≤_}
+use native.Mathlib.Omega.{arith}
+use lib.ListN.{length}
+use Rattle.source.proofs.Arrays.{length-mapped}
+use Rattle.certify.specs.Below.{Code, Thread}
+use Rattle.certify.specs.Straight.{Gone}
+use Rattle.certify.proofs.Walking.{Back, one-compute-back, one-branch-back, one-fence-back, back-start, back-end}
+use Rattle.certify.proofs.straight.before_straight.Statement.{statement}
+use Rattle.certify.proofs.straight.before_straight.Tie as tie
+
+abbrev Inv-loop : tie.InvT-loop
+Inv-loop steps left₀ of₀ left of = (length of ≡ 8) × ((left ≤ 16) × ((c : Code) (s : Thread) → Gone c s steps left₀ → Back c s steps left of₀ of))
+
+abbrev μ-loop : tie.MeasureT-loop
+μ-loop steps left₀ of₀ left of = left
+
+walk-from-requires : tie.Need-walk-from-requires Inv-loop μ-loop
+walk-from-requires c κs = c .pre
+
+loop-holds : tie.Need-loop-holds Inv-loop μ-loop
+loop-holds c = (search length-mapped depth 7, (c .before .before .walk-from .ensures .few, λ c' s g. back-start c' s _ _ _ g))
+
+sub-left : tie.Need-sub-left Inv-loop μ-loop
+sub-left c = let l = c .loop-test .taken in omega arith
+
+mul-e : tie.Need-mul-e Inv-loop μ-loop
+mul-e c = let h = c .before .loop .inv .1 .0 in omega arith
+
+array-copy-out-e : tie.Need-array-copy-out-e Inv-loop μ-loop
+array-copy-out-e c = let h = c .before .loop .inv .1 .0 in let l = c .loop-test .taken in omega arith
+
+before-compute-requires : tie.Need-before-compute-requires Inv-loop μ-loop
+before-compute-requires c κs = c .before .before .before .before .before .loop .inv .0
+
+loop-less : tie.Need-loop-less Inv-loop μ-loop
+loop-less c = let l = c .before .before .before .before .before .loop-test .taken in omega arith
+
+loop-again : tie.Need-loop-again Inv-loop μ-loop
+loop-again c =
+    let b = c .before .before .before .before .before .before .loop .inv .1 in
+    let h = b .0 in
+    (c .before-compute .ensures .0, (omega arith, λ c' s g. one-compute-back _ _ _ _ (c .before .before .before .before .before .loop-test .taken) (c .before .before .if1 .taken) (c .before-compute .ensures .1) c' s _ (b .1 c' s g)))
+
+before-branch-requires : tie.Need-before-branch-requires Inv-loop μ-loop
+before-branch-requires c κs = c .before .before .before .before .before .before .before .loop .inv .0
+
+loop-less-2 : tie.Need-loop-less-2 Inv-loop μ-loop
+loop-less-2 c = let l = c .before .before .before .before .before .before .before .loop-test .taken in omega arith
+
+loop-again-2 : tie.Need-loop-again-2 Inv-loop μ-loop
+loop-again-2 c =
+    let b = c .before .before .before .before .before .before .before .before .loop .inv .1 in
+    let h = b .0 in
+    (c .before-branch .ensures .0, (omega arith, λ c' s g. one-branch-back _ _ _ _ (c .before .before .before .before .before .before .before .loop-test .taken) (c .before .before .if2 .taken) (c .before-branch .ensures .1) c' s _ (b .1 c' s g)))
+
+loop-less-3 : tie.Need-loop-less-3 Inv-loop μ-loop
+loop-less-3 c = let l = c .before .before .before .before .before .loop-test .taken in omega arith
+
+loop-again-3 : tie.Need-loop-again-3 Inv-loop μ-loop
+loop-again-3 c =
+    let b = c .before .before .before .before .before .before .loop .inv .1 in
+    let h = b .0 in
+    (c .before .before .before .before .before .before .loop .inv .0, (omega arith, λ c' s g. one-fence-back _ _ _ _ (c .before .before .before .before .before .loop-test .taken) (c .before .before .if1 .left) (c .if2 .left) refl c' s _ (b .1 c' s g)))
+
+returns : tie.Need-returns Inv-loop μ-loop
+returns c = let a = c .before .before .before .before .before .args in back-end (a .c) (a .s) _ _ _ _ (let l = c .loop-test .left in omega arith) (c .before .loop .inv .1 .1 (a .c) (a .s) (c .before .before .before .before .walk-from .ensures))
+
+pub before-straight-spec : {M : Type 1} → statement M
+before-straight-spec =
+    tie.close
+    (tie.spec
+    Inv-loop
+    μ-loop
+    walk-from-requires
+    loop-holds
+    sub-left
+    mul-e
+    array-copy-out-e
+    before-compute-requires
+    loop-less
+    loop-again
+    before-branch-requires
+    loop-less-2
+    loop-again-2
+    loop-less-3
+    loop-again-3
+    returns)
