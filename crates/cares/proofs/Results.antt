@@ -2,53 +2,140 @@
 -- Assumes nothing.
 use mathlib.Core.Path.{_≡_, refl, sym, ap, ap₂, subst, _∙_}
 use mathlib.Core.Logic.{⊎-elim}
-use mathlib.Core.Bool.{Bool, true, false}
-use Prim.Native.Nat.{ℕ, _+_, _-_, _%_, _≤_, _<_}
-use native.Mathlib.Nat.{add-comm}
+use mathlib.Core.Bool.{Bool, true, false, cond}
+use Prim.Native.Nat.{ℕ, zero, suc, _+_, _-_, _*_, _/_, _%_, _≤_, _<_}
+use native.Mathlib.Nat.{add-comm, div-add-mod'}
 use native.Mathlib.Omega.{arith}
+use lib.Arith.{bin-ind}
+use lib.Bits.{bitXor, differ, xor-step, xor-comm, xor-lt, xor-shr, xor-mod}
 use lib.Dec.{eqb}
 use borrow.Author.Tests.{ne-eqb}
 use Rattle.source.specs.Program.{computeMode}
 use Rattle.machine.specs.Rules.{address, combine, branchBy}
 use Rattle.source.specs.declared.ComputeMode.{ComputeMode}
-use Rattle.source.specs.declared.ComputeMode.the-variants.{Add}
-use Rattle.cares.specs.Cares.{Agrees, same, near, other}
+use Rattle.source.specs.declared.ComputeMode.the-variants.{Add, Subtract, ExclusiveOr, Equal}
+use Rattle.cares.specs.Cares.{Agrees, same, other}
 use Rattle.cares.proofs.Agreeing.{same-value, same-address, not-that}
 
--- ---- computed values
--- the address of a sum, by the operands' addresses
+-- ---- the address of a computed value
+-- taken modulo 256, it stays
+low : (n : ℕ) → n % 256 % 16 ≡ n % 16
+low n = omega arith
+
+-- of a sum, by the operands' addresses
 sum-address : (x y : ℕ) → address ((x + y) % 256) ≡ address (address x + address y)
 sum-address x y = low (x + y) ∙ apart
   where
-    low : (n : ℕ) → n % 256 % 16 ≡ n % 16
-    low n = omega arith
-
     apart : (x + y) % 16 ≡ (x % 16 + y % 16) % 16
     apart = omega arith
 
--- what is left of a sum without one operand is the other
+-- of a difference, where the second operand is a byte
+difference-address : (x y : ℕ) → y < 256 → address ((x + 256 - y) % 256) ≡ address (address x + 16 - address y)
+difference-address x y l = low (x + 256 - y) ∙ apart
+  where
+    apart : (x + 256 - y) % 16 ≡ (x % 16 + 16 - y % 16) % 16
+    apart = omega arith
+
+-- of an exclusive or
+exclusive-address : (x y : ℕ) → address (bitXor x y) ≡ bitXor (address x) (address y)
+exclusive-address x y = xor-mod x y 4
+
+-- an exclusive or of bytes is a byte
+pub exclusive-byte : (x k : ℕ) → x < 256 → bitXor x (k % 256) < 256
+exclusive-byte x k l = xor-lt 8 x (k % 256) l (omega arith)
+
+-- the care is met by the address z alone
+abbrev pub ByAddress : ℕ → ℕ → Type 0
+ByAddress k z = (v w : ℕ) → address v ≡ address z → address v ≡ address w → Agrees k v w
+
+-- ---- what is left of a computed value without one operand
+-- of a sum: the other operand
 left-of-sum : (x y : ℕ) → x < 256 → ((x + y) % 256 + 256 - x) % 256 ≡ y % 256
 left-of-sum x y l = omega arith
 
--- mode 0 is a sum
+-- of a difference that is not 0: the second
+second-of-difference : (x y e : ℕ) → x < 256 → (e ≡ 0 → ⊥) → e ≡ (x + 256 - y) % 256 → (x + 256 - e) % 256 ≡ y % 256
+second-of-difference x y e l n i = omega arith
+
+-- and the first, where the second is a byte
+first-of-difference : (x y : ℕ) → y < 256 → ((x + 256 - y) % 256 + y) % 256 ≡ x % 256
+first-of-difference x y l = omega arith
+
+-- of an exclusive or: the other operand
+xor-twice : (a b : ℕ) → bitXor a (bitXor a b) ≡ b
+xor-twice =
+    bin-ind (λ (n : ℕ). (b : ℕ) → bitXor n (bitXor n b) ≡ b) (λ b. refl)
+    (λ n ih b. xor-step n (bitXor n b)
+    ∙ ap₂ (λ (v w : ℕ). v * 2 + w) (ap (bitXor (n / 2)) (xor-shr n b 1) ∙ ih (b / 2)) (ap (differ (n % 2)) (xor-mod n b 1) ∙ digit (n % 2) (b % 2) (omega arith) (omega arith))
+    ∙ div-add-mod' b 2)
+  where
+    digit : (p q : ℕ) → p < 2 → q < 2 → differ p (bitXor p q) ≡ q
+    digit zero q l m = refl
+    digit (suc zero) zero l m = refl
+    digit (suc zero) (suc zero) l m = refl
+    digit (suc zero) (suc (suc q)) l m = absurd (omega arith)
+    digit (suc (suc p)) q l m = absurd (omega arith)
+
+left-of-exclusive : (x y : ℕ) → x < 256 → bitXor x (bitXor x y % 256) ≡ y % 256
+left-of-exclusive x y l =
+    let i : x % 256 ≡ x = omega arith in
+    ap (bitXor x) (xor-mod x y 8 ∙ ap (λ (v : ℕ). bitXor v (y % 256)) i) ∙ xor-twice x (y % 256)
+
+-- ---- the modes by their numbers
 pub is-sum : (m : ℕ) → m ≡ 0 → computeMode m ≡ Add
 unfolding computeMode
 is-sum m e = rw e
 
+pub is-difference : (m : ℕ) → m ≡ 1 → computeMode m ≡ Subtract
+unfolding computeMode
+is-difference m e = rw e
+
+pub is-exclusive : (m : ℕ) → m ≡ 2 → computeMode m ≡ ExclusiveOr
+unfolding computeMode
+is-exclusive m e = rw e
+
+pub is-equal : (m : ℕ) → (m ≡ 0 → ⊥) → (m ≡ 1 → ⊥) → (m ≡ 2 → ⊥) → computeMode m ≡ Equal
+unfolding computeMode
+is-equal m d d' d'' = rw (ne-eqb m 0 d, ne-eqb m 1 d', ne-eqb m 2 d'')
+
+-- ---- computed values
 module _ {x y x' y' : ℕ} where
   -- the same operands: the same result
   pub same-result : (how : ComputeMode) {k : ℕ} → Agrees 2 x x' → Agrees 2 y y' → Agrees k (combine how x y) (combine how x' y')
   same-result how p q = same (ap₂ (combine how) (same-value p) (same-value q))
 
-  -- the same operands modulo 16: the same sum modulo 16
-  pub near-sum : {k : ℕ} → k ≡ 1 → Agrees 1 x x' → Agrees 1 y y' → Agrees k (combine Add x y) (combine Add x' y')
-  unfolding combine
-  near-sum e p q = near e (sum-address x y ∙ ap₂ (λ (v w : ℕ). address (v + w)) (same-address p) (same-address q) ∙ sym (sum-address x' y'))
+  -- the same operands modulo 16: the same address, where it is known from theirs
+  near-by : (how : ComputeMode) (f : ℕ → ℕ → ℕ) → ((v w : ℕ) → address (combine how v w) ≡ f (address v) (address w)) → Agrees 1 x x' → Agrees 1 y y'
+      → address (combine how x y) ≡ address (combine how x' y')
+  near-by how f law p q = law x y ∙ ap₂ f (same-address p) (same-address q) ∙ sym (law x' y')
 
-  -- the second operand is not what is left of the value that the care names: the sum is not that
+  -- the same sum modulo 16
+  pub near-sum : {k : ℕ} → ByAddress k (address x + address y) → Agrees 1 x x' → Agrees 1 y y' → Agrees k (combine Add x y) (combine Add x' y')
+  unfolding combine
+  near-sum h p q = h _ _ (sum-address x y) (near-by Add (λ v w. address (v + w)) sum-address p q)
+
+  -- the same exclusive or modulo 16
+  pub near-exclusive : {k : ℕ} → ByAddress k (bitXor x y) → Agrees 1 x x' → Agrees 1 y y' → Agrees k (combine ExclusiveOr x y) (combine ExclusiveOr x' y')
+  unfolding combine
+  near-exclusive h p q = h _ _ refl (near-by ExclusiveOr bitXor exclusive-address p q)
+
+  -- the same first operand modulo 16, and the same second: the same difference modulo 16
+  pub near-difference : {k : ℕ} → y < 256 → ByAddress k (address x + 16 - address y) → Agrees 1 x x' → Agrees 2 y y' → Agrees k (combine Subtract x y) (combine Subtract x' y')
+  unfolding combine
+  near-difference b h p q =
+      let i = same-value q in
+      h _ _ (difference-address x y b)
+      (difference-address x y b ∙ ap₂ (λ (v w : ℕ). address (v + 16 - address w)) (same-address p) i ∙ sym (difference-address x' y' (omega arith)))
+
+  -- the first operand is the same, and the second is not what it would be if the result were the value that the care names: the result is not that
+  other-by : (how : ComputeMode) {k j : ℕ} → 256 ≤ k → k < 512 → 256 ≤ j → j < 512 → Agrees 2 x x' → Agrees j y y' → (k ≡ 256 + combine how x' y' % 256 → j ≡ 256 + y' % 256)
+      → Agrees k (combine how x y) (combine how x' y')
+  other-by how l g l' g' p q left = ⊎-elim (λ h. same (ap₂ (combine how) (same-value p) h)) (λ n. other l g (λ i. n (left i))) (not-that l' g' q)
+
+  -- so for a sum
   pub other-sum : {k v : ℕ} → 256 ≤ k → k < 512 → v ≡ x → v < 256 → Agrees 2 x x' → Agrees (256 + (k % 256 + 256 - v) % 256) y y' → Agrees k (combine Add x y) (combine Add x' y')
   unfolding combine
-  other-sum {k} {v} l g e b p q = ⊎-elim (λ h. same (ap₂ (combine Add) (same-value p) h)) (λ n. other l g (λ i. n (left i))) (not-that (omega arith) (omega arith) q)
+  other-sum {k} {v} l g e b p q = other-by Add l g (omega arith) (omega arith) p q left
     where
       left : k ≡ 256 + (x' + y') % 256 % 256 → 256 + (k % 256 + 256 - v) % 256 ≡ 256 + y' % 256
       left i =
@@ -56,11 +143,84 @@ module _ {x y x' y' : ℕ} where
           let j : k % 256 ≡ (v + y') % 256 = omega arith in
           ap (λ (m : ℕ). 256 + (m + 256 - v) % 256) j ∙ ap (λ (m : ℕ). 256 + m) (left-of-sum v y' b)
 
--- the same with the first operand and the second exchanged
+  -- for a difference, where the value is not 0
+  pub other-difference : {k v : ℕ} → 256 ≤ k → k < 512 → (k ≡ 256 → ⊥) → v ≡ x → v < 256 → Agrees 2 x x' → Agrees (256 + (v + 256 - k % 256) % 256) y y'
+      → Agrees k (combine Subtract x y) (combine Subtract x' y')
+  unfolding combine
+  other-difference {k} {v} l g d e b p q = other-by Subtract l g (omega arith) (omega arith) p q left
+    where
+      left : k ≡ 256 + (x' + 256 - y') % 256 % 256 → 256 + (v + 256 - k % 256) % 256 ≡ 256 + y' % 256
+      left i =
+          let g : x' ≡ v = sym (e ∙ same-value p) in
+          let i' : k ≡ 256 + (v + 256 - y') % 256 % 256 = i ∙ ap (λ (m : ℕ). 256 + (m + 256 - y') % 256 % 256) g in
+          let j : k % 256 ≡ (v + 256 - y') % 256 = omega arith in
+          ap (λ (m : ℕ). 256 + m) (second-of-difference v y' (k % 256) b (λ z. d (omega arith)) j)
+
+  -- for an exclusive or
+  pub other-exclusive : {k v : ℕ} → 256 ≤ k → k < 512 → v ≡ x → v < 256 → Agrees 2 x x' → Agrees (256 + bitXor v (k % 256)) y y'
+      → Agrees k (combine ExclusiveOr x y) (combine ExclusiveOr x' y')
+  unfolding combine
+  other-exclusive {k} {v} l g e b p q = let t = exclusive-byte v k b in other-by ExclusiveOr l g (omega arith) (omega arith) p q left
+    where
+      left : k ≡ 256 + bitXor x' y' % 256 → 256 + bitXor v (k % 256) ≡ 256 + y' % 256
+      left i =
+          let i' : k ≡ 256 + bitXor v y' % 256 = i ∙ ap (λ (m : ℕ). 256 + bitXor m y' % 256) (sym (e ∙ same-value p)) in
+          let j : k % 256 ≡ bitXor v y' % 256 = omega arith in
+          ap (λ (m : ℕ). 256 + bitXor v m) j ∙ ap (λ (m : ℕ). 256 + m) (left-of-exclusive v y' b)
+
+  -- for a difference with the first operand and the second exchanged
+  pub other-difference-first : {k w : ℕ} → 256 ≤ k → k < 512 → w ≡ y → w < 256 → Agrees (256 + (k % 256 + w) % 256) x x' → Agrees 2 y y'
+      → Agrees k (combine Subtract x y) (combine Subtract x' y')
+  unfolding combine
+  other-difference-first {k} {w} l g e b p q = ⊎-elim (λ h. same (ap₂ (combine Subtract) h (same-value q))) (λ n. other l g (λ i. n (left i))) (not-that (omega arith) (omega arith) p)
+    where
+      left : k ≡ 256 + (x' + 256 - y') % 256 % 256 → 256 + (k % 256 + w) % 256 ≡ 256 + x' % 256
+      left i =
+          let g : y' ≡ w = sym (e ∙ same-value q) in
+          let i' : k ≡ 256 + (x' + 256 - w) % 256 % 256 = i ∙ ap (λ (m : ℕ). 256 + (x' + 256 - m) % 256 % 256) g in
+          let j : k % 256 ≡ (x' + 256 - w) % 256 = omega arith in
+          ap (λ (m : ℕ). 256 + (m + w) % 256) j ∙ ap (λ (m : ℕ). 256 + m) (first-of-difference x' w b)
+
+-- for a sum with the first operand and the second exchanged
 pub other-sum-first : {k v x y x' y' : ℕ} → 256 ≤ k → k < 512 → v ≡ y → v < 256 → Agrees 2 y y' → Agrees (256 + (k % 256 + 256 - v) % 256) x x'
     → Agrees k (combine Add x y) (combine Add x' y')
 unfolding combine
 other-sum-first {k} {v} {x} {y} {x'} {y'} l g e b p q = rw (add-comm x y, add-comm x' y') (other-sum l g e b p q)
+
+-- for an exclusive or
+pub other-exclusive-first : {k v x y x' y' : ℕ} → 256 ≤ k → k < 512 → v ≡ y → v < 256 → Agrees 2 y y' → Agrees (256 + bitXor v (k % 256)) x x'
+    → Agrees k (combine ExclusiveOr x y) (combine ExclusiveOr x' y')
+unfolding combine
+other-exclusive-first {k} {v} {x} {y} {x'} {y'} l g e b p q = rw (xor-comm x y, xor-comm x' y') (other-exclusive l g e b p q)
+
+-- equal or not as before: the same result
+pub same-equal : (x y x' y' : ℕ) {k : ℕ} → eqb x y ≡ eqb x' y' → Agrees k (combine Equal x y) (combine Equal x' y')
+unfolding combine
+same-equal x y x' y' e = same (ap (λ (t : Bool). cond t 1 0) e)
+
+-- ---- whether the operands are equal
+module _ {x y x' y' : ℕ} where
+  -- the same operands: as before
+  pub same-test : Agrees 2 x x' → Agrees 2 y y' → eqb x y ≡ eqb x' y'
+  same-test p q = ap₂ eqb (same-value p) (same-value q)
+
+  -- operands that differ differ on, where one is the same and the other is not that
+  differ-on : {v : ℕ} → v ≡ x → v < 256 → (v ≡ y → ⊥) → Agrees 2 x x' → Agrees (256 + v) y y' → (x ≡ y → ⊥) × (x' ≡ y' → ⊥)
+  differ-on e b d p q =
+      let g = same-value p in
+      (λ i. d (omega arith), ⊎-elim (λ h i. d (omega arith)) (λ o i. o (omega arith)) (not-that (omega arith) (omega arith) q))
+
+  not-equal : (x ≡ y → ⊥) → (x' ≡ y' → ⊥) → eqb x y ≡ eqb x' y'
+  not-equal d d' = ne-eqb x y d ∙ sym (ne-eqb x' y' d')
+
+module _ {v w x y x' y' : ℕ} (e : v ≡ x) (f : w ≡ y) (d : v ≡ w → ⊥) where
+  -- operands that differ: the first is the same, and the second is not that
+  pub not-first : v < 256 → Agrees 2 x x' → Agrees (256 + v) y y' → eqb x y ≡ eqb x' y'
+  not-first b p q = let h = differ-on e b (λ g. d (g ∙ sym f)) p q in not-equal (h .0) (h .1)
+
+  -- the second is the same, and the first is not that
+  pub not-second : w < 256 → Agrees 2 y y' → Agrees (256 + w) x x' → eqb x y ≡ eqb x' y'
+  not-second b p q = let h = differ-on f b (λ g. d (e ∙ sym g)) p q in not-equal (λ i. h .0 (sym i)) (λ i. h .1 (sym i))
 
 -- ---- branches
 -- a branch over no instruction goes one way
@@ -69,30 +229,6 @@ no-skip n true true e = refl
 no-skip n true false e = omega arith
 no-skip n false true e = omega arith
 no-skip n false false e = refl
-
-module _ {x y x' y' : ℕ} where
-  -- the same operands: the same way
-  pub same-way : (n : ℕ) → Agrees 2 x x' → Agrees 2 y y' → branchBy (eqb x y) n ≡ branchBy (eqb x' y') n
-  same-way n p q = ap₂ (λ (v w : ℕ). branchBy (eqb v w) n) (same-value p) (same-value q)
-
-  -- operands that differ differ on, where one is the same and the other is not that
-  differ : {v : ℕ} → v ≡ x → v < 256 → (v ≡ y → ⊥) → Agrees 2 x x' → Agrees (256 + v) y y' → (x ≡ y → ⊥) × (x' ≡ y' → ⊥)
-  differ e b d p q =
-      let g = same-value p in
-      (λ i. d (omega arith), ⊎-elim (λ h i. d (omega arith)) (λ o i. o (omega arith)) (not-that (omega arith) (omega arith) q))
-
-  -- operands that differ: no instruction is skipped
-  not-taken : (n : ℕ) → (x ≡ y → ⊥) → (x' ≡ y' → ⊥) → branchBy (eqb x y) n ≡ branchBy (eqb x' y') n
-  not-taken n d d' = ap (λ (t : Bool). branchBy t n) (ne-eqb x y d ∙ sym (ne-eqb x' y' d'))
-
-module _ {v w x y x' y' : ℕ} (n : ℕ) (e : v ≡ x) (f : w ≡ y) (d : v ≡ w → ⊥) where
-  -- operands that differ: the first is the same, and the second is not that
-  pub not-first : v < 256 → Agrees 2 x x' → Agrees (256 + v) y y' → branchBy (eqb x y) n ≡ branchBy (eqb x' y') n
-  not-first b p q = let h = differ e b (λ g. d (g ∙ sym f)) p q in not-taken n (h .0) (h .1)
-
-  -- the second is the same, and the first is not that
-  pub not-second : w < 256 → Agrees 2 y y' → Agrees (256 + w) x x' → branchBy (eqb x y) n ≡ branchBy (eqb x' y') n
-  not-second b p q = let h = differ f b (λ g. d (e ∙ sym g)) p q in not-taken n (λ i. h .0 (sym i)) (λ i. h .1 (sym i))
 
 -- ---- what the operands hold, as a step tells it
 module _ {f g x y v w v' w' : ℕ} (e : x ≡ v) (e' : y ≡ w) (p : Agrees f v v') (q : Agrees g w w') where

@@ -1,10 +1,12 @@
 // What a failure rests on before an instruction that has one way to go on, by what it rests on after it. The cares are changed in place.
 ghost use mathlib.Core.Path.{_≡_};
+ghost use mathlib.Core.Bool.{true};
 ghost use Prim.Native.Nat.{ℕ};
 ghost use lib.Dec.{eqb};
 ghost use lib.ListN.{length};
 ghost use Rattle.source.specs.Program.{operand, computeMode};
-ghost use Rattle.machine.specs.Rules.{valueOf, combine, branchBy};
+ghost use Rattle.source.specs.declared.ComputeMode.the-variants.{Add, Subtract, ExclusiveOr};
+ghost use Rattle.machine.specs.Rules.{address, valueOf, combine, branchBy};
 ghost use Rattle.cares.specs.Cares.{Agrees, careOf, Agreeing, AgreeingBut, firstOf, secondOf, noStep, Tells};
 use crate::joined;
 use machine::Thread;
@@ -58,18 +60,22 @@ fn both(k: u16) -> Shares
     }
 }
 
+// Whether any result at z's address is as the care asks: it asks for no more than the address, or that the address is not another one.
+fn by_address(care: u16, z: u8) -> bool
+    ensures { λ r. ⌜ (r ≡ true → (v w : ℕ) → address v ≡ address z → address v ≡ address w → Agrees care v w) ⌝ }
+{
+    if care < 2048 {
+        return care == 1;
+    }
+    care != 2048 + (z % 16) as u16
+}
+
 // A sum modulo 16 rests on its operands modulo 16. That a sum is not e: the operand that was read earlier keeps its value, and the other is
 // not what would be left of e. Any other result rests on the operands' values.
-fn compute_shares(care: u16, m: u8, x: u8, y: u8, earlier: bool) -> Shares
-    ensures { λ r. ⌜ ((x' y' : ℕ) → Agrees (r .first) x x' → Agrees (r .second) y y' → Agrees care (combine (computeMode m) x y) (combine (computeMode m) x' y')) ⌝ }
+fn sum_shares(care: u16, x: u8, y: u8, earlier: bool) -> Shares
+    ensures { λ r. ⌜ ((x' y' : ℕ) → Agrees (r .first) x x' → Agrees (r .second) y y' → Agrees care (combine Add x y) (combine Add x' y')) ⌝ }
 {
-    if care == 0 {
-        return both(0);
-    }
-    if m != 0 {
-        return both(2);
-    }
-    if care == 1 {
+    if by_address(care, x % 16 + y % 16) {
         return both(1);
     }
     if care < 256 {
@@ -92,13 +98,67 @@ fn compute_shares(care: u16, m: u8, x: u8, y: u8, earlier: bool) -> Shares
     }
 }
 
-// Where the operands differ, the one that was read earlier keeps its value, and the other is not that.
-fn branch_shares(n: u8, x: u8, y: u8, earlier: bool) -> Shares
-    ensures { λ r. ⌜ ((x' y' : ℕ) → Agrees (r .first) x x' → Agrees (r .second) y y' → branchBy (eqb x y) n ≡ branchBy (eqb x' y') n) ⌝ }
+// A difference like a sum, but for the second operand: the contract does not say that it is a byte, and past the first operand by more than
+// 256 it leaves 0. So a difference modulo 16 rests on the second operand's value, and so does one that is not 0.
+fn difference_shares(care: u16, x: u8, y: u8, earlier: bool) -> Shares
+    ensures { λ r. ⌜ ((x' y' : ℕ) → Agrees (r .first) x x' → Agrees (r .second) y y' → Agrees care (combine Subtract x y) (combine Subtract x' y')) ⌝ }
 {
-    if n == 0 {
-        return both(0);
+    if by_address(care, x % 16 + 16 - y % 16) {
+        return Shares {
+            first: 1,
+            second: 2,
+        };
     }
+    if care < 256 {
+        return both(2);
+    }
+    if 511 < care {
+        return both(2);
+    }
+    if earlier && care != 256 {
+        let taken = 256 + (x as u16 + 256 - care % 256) % 256;
+        return Shares {
+            first: 2,
+            second: taken,
+        };
+    }
+    let whole = 256 + (care % 256 + y as u16) % 256;
+    Shares {
+        first: whole,
+        second: 2,
+    }
+}
+
+// An exclusive or like a sum: what would be left of e is the exclusive or of e and the operand that keeps its value.
+fn exclusive_shares(care: u16, x: u8, y: u8, earlier: bool) -> Shares
+    ensures { λ r. ⌜ ((x' y' : ℕ) → Agrees (r .first) x x' → Agrees (r .second) y y' → Agrees care (combine ExclusiveOr x y) (combine ExclusiveOr x' y')) ⌝ }
+{
+    if by_address(care, x ^ y) {
+        return both(1);
+    }
+    if care < 256 {
+        return both(2);
+    }
+    if 511 < care {
+        return both(2);
+    }
+    let e = (care % 256) as u8;
+    if earlier {
+        return Shares {
+            first: 2,
+            second: 256 + (x ^ e) as u16,
+        };
+    }
+    Shares {
+        first: 256 + (y ^ e) as u16,
+        second: 2,
+    }
+}
+
+// Whether the operands are equal. Where they differ, the one that was read earlier keeps its value, and the other is not that.
+fn equal_shares(x: u8, y: u8, earlier: bool) -> Shares
+    ensures { λ r. ⌜ ((x' y' : ℕ) → Agrees (r .first) x x' → Agrees (r .second) y y' → eqb x y ≡ eqb x' y') ⌝ }
+{
     if x == y {
         return both(2);
     }
@@ -112,6 +172,35 @@ fn branch_shares(n: u8, x: u8, y: u8, earlier: bool) -> Shares
         first: 256 + y as u16,
         second: 2,
     }
+}
+
+// What a computed value rests on, by its mode.
+fn compute_shares(care: u16, m: u8, x: u8, y: u8, earlier: bool) -> Shares
+    ensures { λ r. ⌜ ((x' y' : ℕ) → Agrees (r .first) x x' → Agrees (r .second) y y' → Agrees care (combine (computeMode m) x y) (combine (computeMode m) x' y')) ⌝ }
+{
+    if care == 0 {
+        return both(0);
+    }
+    if m == 0 {
+        return sum_shares(care, x, y, earlier);
+    }
+    if m == 1 {
+        return difference_shares(care, x, y, earlier);
+    }
+    if m == 2 {
+        return exclusive_shares(care, x, y, earlier);
+    }
+    equal_shares(x, y, earlier)
+}
+
+// A branch over no instruction goes one way; any other rests on whether the operands are equal.
+fn branch_shares(n: u8, x: u8, y: u8, earlier: bool) -> Shares
+    ensures { λ r. ⌜ ((x' y' : ℕ) → Agrees (r .first) x x' → Agrees (r .second) y y' → branchBy (eqb x y) n ≡ branchBy (eqb x' y') n) ⌝ }
+{
+    if n == 0 {
+        return both(0);
+    }
+    equal_shares(x, y, earlier)
 }
 
 // The care for register r, which is about to be written: what it held does not count.

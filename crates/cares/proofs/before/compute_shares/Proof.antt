@@ -1,9 +1,7 @@
--- `cares::before::compute_shares` meets its contract: one case for each return.
+-- `cares::before::compute_shares` meets its contract: one case for each mode.
 -- Assumes nothing.
-use mathlib.Core.Path.{refl}
-use native.Mathlib.Omega.{arith}
 use Rattle.cares.specs.Cares.{free}
-use Rattle.cares.proofs.Results.{same-result, is-sum, near-sum, other-sum, other-sum-first}
+use Rattle.cares.proofs.Results.{is-sum, is-difference, is-exclusive, is-equal, same-equal}
 use borrow.Author.Needs.{needs}
 use Rattle.cares.proofs.before.compute_shares.Statement.{statement}
 use Rattle.cares.proofs.before.compute_shares.Tie as tie
@@ -14,53 +12,29 @@ both-requires c κs = search needs
 returns : tie.Need-returns
 returns c = λ x' y' p q. free (c .before .if1 .taken)
 
-both-requires-2 : tie.Need-both-requires-2
-both-requires-2 c κs = search needs
+sum-shares-requires : tie.Need-sum-shares-requires
+sum-shares-requires c κs = search needs
 
 returns-2 : tie.Need-returns-2
-returns-2 c = let b = c .both2 .ensures in λ x' y' p q. same-result _ (rw (b .0) at p) (rw (b .1) at q)
+returns-2 c = λ x' y' p q. rw (is-sum _ (c .before .if2 .taken)) (c .sum-shares .ensures x' y' p q)
 
-both-requires-3 : tie.Need-both-requires-3
-both-requires-3 c κs = search needs
+difference-shares-requires : tie.Need-difference-shares-requires
+difference-shares-requires c κs = search needs
 
 returns-3 : tie.Need-returns-3
-returns-3 c = let b = c .both3 .ensures in λ x' y' p q. rw (is-sum _ (c .before .before .if2 .left)) (near-sum (c .before .if3 .taken) (rw (b .0) at p) (rw (b .1) at q))
+returns-3 c = λ x' y' p q. rw (is-difference _ (c .before .if3 .taken)) (c .difference-shares .ensures x' y' p q)
 
-both-requires-4 : tie.Need-both-requires-4
-both-requires-4 c κs = search needs
+exclusive-shares-requires : tie.Need-exclusive-shares-requires
+exclusive-shares-requires c κs = search needs
 
 returns-4 : tie.Need-returns-4
-returns-4 c = let b = c .both4 .ensures in λ x' y' p q. same-result _ (rw (b .0) at p) (rw (b .1) at q)
+returns-4 c = λ x' y' p q. rw (is-exclusive _ (c .before .if4 .taken)) (c .exclusive-shares .ensures x' y' p q)
 
-both-requires-5 : tie.Need-both-requires-5
-both-requires-5 c κs = search needs
+equal-shares-requires : tie.Need-equal-shares-requires
+equal-shares-requires c κs = search needs
 
 returns-5 : tie.Need-returns-5
-returns-5 c = let b = c .both5 .ensures in λ x' y' p q. same-result _ (rw (b .0) at p) (rw (b .1) at q)
-
-add-left : tie.Need-add-left
-add-left c = search needs
-
-sub-left : tie.Need-sub-left
-sub-left c = search needs
-
-add-left-2 : tie.Need-add-left-2
-add-left-2 c = search needs
-
-returns-6 : tie.Need-returns-6
-returns-6 c = λ x' y' p q. rw (is-sum _ (c .before .before .before .before .if2 .left)) (other-sum (c .before .before .if4 .left) (let l = c .before .if5 .left in omega arith) refl (omega arith) p q)
-
-add-left-3 : tie.Need-add-left-3
-add-left-3 c = search needs
-
-sub-left-2 : tie.Need-sub-left-2
-sub-left-2 c = search needs
-
-add-left-4 : tie.Need-add-left-4
-add-left-4 c = search needs
-
-returns-7 : tie.Need-returns-7
-returns-7 c = λ x' y' p q. rw (is-sum _ (c .before .before .before .before .if2 .left)) (other-sum-first (c .before .before .if4 .left) (let l = c .before .if5 .left in omega arith) refl (omega arith) q p)
+returns-5 c = λ x' y' p q. rw (is-equal _ (c .before .before .before .if2 .left) (c .before .before .if3 .left) (c .before .if4 .left)) (same-equal _ _ x' y' (c .equal-shares .ensures x' y' p q))
 
 pub compute-shares-spec : {M : Type 1} → statement M
 compute-shares-spec =
@@ -68,19 +42,11 @@ compute-shares-spec =
     (tie.spec
     both-requires
     returns
-    both-requires-2
+    sum-shares-requires
     returns-2
-    both-requires-3
+    difference-shares-requires
     returns-3
-    both-requires-4
+    exclusive-shares-requires
     returns-4
-    both-requires-5
-    returns-5
-    add-left
-    sub-left
-    add-left-2
-    returns-6
-    add-left-3
-    sub-left-2
-    add-left-4
-    returns-7)
+    equal-shares-requires
+    returns-5)
