@@ -23,3 +23,4 @@ pub mod Missing
 pub mod Owning
 pub mod Reaching
 pub mod Places
+pub mod Later

@@ -3,7 +3,7 @@ mod asks;
 mod checked;
 pub mod reach;
 mod straight;
-mod vain;
+pub mod vain;
 mod window;
 
 pub use checked::certify;

@@ -180,7 +180,7 @@ pub fn two_reached(c: Code, i: u8, m: Memory, s: Thread, q: Sought) -> Met
 }
 
 // The same, and what it rests on that there is no other.
-fn search_runs(c: Code, i: u8, m: Memory, s: Thread, q: Sought) -> Reached
+pub fn search_runs(c: Code, i: u8, m: Memory, s: Thread, q: Sought) -> Reached
     requires { ⌜ Ready c m s ⌝ }
     ensures { λ r. ⌜ Found (q .from) (q .met) (λ y k. Meets c i m y (q .hole) k) s r ⌝ }
 {

@@ -4,15 +4,18 @@ ghost use mathlib.Core.Bool.{true, cond};
 ghost use Prim.Native.Nat.{_≤_, _<_};
 ghost use lib.Dec.{eqb};
 ghost use Rattle.cares.specs.Cares.{Agrees};
-ghost use Rattle.certify.specs.Tries.{Doubled, Vain};
+ghost use Rattle.certify.specs.Tries.{Doubled, Vain, LeftOut, PassedOver};
 use cares::agrees;
 use loads::read_value;
 use machine::Forward;
 use machine::Memory;
 use machine::Thread;
+use machine::promises::has;
+use machine::promises::without;
 use rules::operands::address_of_sum;
 use rules::operands::value_of;
 use source::Instr;
+use times::after;
 
 // A try, if it was made (its care is not 3), left no larger view than another leaves, and the same value as far as that counted.
 fn no_better(care: u16, view: u8, value: u8, limit: u8, wanted: u8) -> bool
@@ -80,4 +83,31 @@ pub fn in_vain(m: Memory, s: Thread, x: Instr, counted: [u16; 17], t: u8) -> boo
         Instr::Branch(_, _, _) => false,
         Instr::Fence(_) => false,
     }
+}
+
+// The set without time u, if u is in it.
+fn left_out(p: u16, u: u8) -> u16
+    ensures { λ r. ⌜ LeftOut p u r ⌝ }
+{
+    if has(p, u) { without(p, u) } else { p }
+}
+
+// The times of a set at which a load is worth a try still, after the try at time t has failed: what a later one leaves in the register must
+// differ in what counted, or come with a smaller view.
+pub fn passed_over(later: u16, m: Memory, s: Thread, l: u8, t: u8, care: u16) -> u16
+    requires { ⌜ (l < 16) × (t ≤ 16) ⌝ }
+    ensures { λ r. ⌜ PassedOver m s l t care later r ⌝ }
+{
+    let pair = s.forward_at(l);
+    let value = read_value(m, t);
+    let view = view_by(pair, t);
+    let mut left = later;
+    let mut u = after(later, t);
+    while u <= 16 {
+        if no_better(care, view, value, view_by(pair, u), read_value(m, u)) {
+            left = left_out(left, u);
+        }
+        u = after(later, u);
+    }
+    left
 }

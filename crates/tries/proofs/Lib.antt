@@ -1,3 +1,4 @@
 pub mod Refused
 pub mod Worth
+pub mod Beaten
 pub mod Open

@@ -6,7 +6,7 @@ use mathlib.Core.Option.{none, some}
 use Prim.Native.Nat.{ℕ, _+_, _*_, _≤_, _<_}
 use native.Mathlib.Omega.{arith}
 use lib.Count.{ones}
-use lib.Dec.{ltb, eqb, ltb→lt}
+use lib.Dec.{T, ltb, eqb, ltb→lt}
 use borrow.Author.Tests.{le-ltb}
 use Rattle.source.specs.declared.Program.{Program}
 use Rattle.source.specs.declared.Instr.{Instr}
@@ -20,11 +20,12 @@ use Rattle.machine.specs.Rules.{Executed, refused, next, execute}
 use Rattle.machine.specs.WellFormed.{machineTest}
 use Rattle.machine.proofs.Formed.{MachineOk}
 use Rattle.source.proofs.Formed.{ProgramOk}
+use Rattle.certify.specs.Certify.{certified}
 use Rattle.certify.proofs.Fit.{promises-fit}
 use Rattle.certify.proofs.Law.{Sound}
 use Rattle.explore.specs.Explored.{Reached}
 use Rattle.explore.proofs.Law.{explored-law}
-use Rattle.step.specs.Step.{Step, Outcome, rejected, accepted, settleRule, executeInstr, kindStep, ruleStep, executeStep, step, taken}
+use Rattle.step.specs.Step.{Step, Outcome, rejected, accepted, settle, settleRule, executeInstr, kindStep, ruleStep, executeStep, step, taken}
 use Rattle.step.specs.Order.{execution, promise}
 use Rattle.step.proofs.Backwards.{check-passed, not-accepted, promisedMemory, promisedThread, Did, executed, promised, did}
 use Rattle.step.proofs.Bound.{well-formed, one-promise}
@@ -81,15 +82,25 @@ module _ (p : Program) (x : Machine) where
         not-taken (step p x (execution i t))
         (λ y e. not-accepted (rw (le-ltb ((threadOf x i) .position) ((codeOf p i) .count) h) at (by-instruction t y e)))
 
-    -- at a time at which the instruction cannot execute
-    pub no-such-time : (c : Instr) → instrAt (codeOf p i) ((threadOf x i) .position) ≡ some c → (t : ℕ)
-        → ((s : Thread) → execute c (x .memory) t (threadOf x i) ≡ next s → ⊥) → taken (step p x (execution i t)) ≡ none
-    no-such-time c is-next t never =
+    -- a thread that has settled is certified
+    has-settled : (y : Machine) (s : Thread) → settle p x i (x .memory) s ≡ accepted y → T (certified (codeOf p i) i (x .memory) s)
+    unfolding settle
+    has-settled y s f = check-passed (certified (codeOf p i) i (x .memory) s) 29 _ y f .0
+
+    -- at a time after which the thread is not certified
+    pub not-certified : (c : Instr) → instrAt (codeOf p i) ((threadOf x i) .position) ≡ some c → (t : ℕ)
+        → ((s : Thread) → execute c (x .memory) t (threadOf x i) ≡ next s → T (certified (codeOf p i) i (x .memory) s) → ⊥) → taken (step p x (execution i t)) ≡ none
+    not-certified c is-next t never =
         not-taken (step p x (execution i t)) (λ y e. go y (execute c (x .memory) t (threadOf x i)) refl (rw is-next at (by-instruction t y e)))
       where
         go : (y : Machine) (o : Executed) → execute c (x .memory) t (threadOf x i) ≡ o → settleRule p x i o ≡ accepted y → ⊥
         go y (refused n) d f = not-accepted f
-        go y (next s) d f = never s d
+        go y (next s) d f = never s d (has-settled y s f)
+
+    -- at a time at which the instruction cannot execute
+    pub no-such-time : (c : Instr) → instrAt (codeOf p i) ((threadOf x i) .position) ≡ some c → (t : ℕ)
+        → ((s : Thread) → execute c (x .memory) t (threadOf x i) ≡ next s → ⊥) → taken (step p x (execution i t)) ≡ none
+    no-such-time c is-next t never = not-certified c is-next t (λ s e q. never s e)
 
     -- ---- promises
     -- each store that is left has its promise

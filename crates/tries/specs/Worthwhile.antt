@@ -3,21 +3,32 @@
 use mathlib.Core.Path.{_≡_}
 use mathlib.Core.Bool.{Bool, false}
 use mathlib.Core.Option.{none}
+use mathlib.Core.List.{List}
 use Prim.Native.Nat.{ℕ, zero, suc, _+_, _-_, _*_, _≤_, _<_}
+use lib.Dec.{T}
 use Rattle.source.specs.declared.Code.{Code}
 use Rattle.source.specs.declared.Program.{Program}
+use Rattle.source.specs.declared.Operand.{Operand}
+use Rattle.source.specs.declared.LoadMode.{LoadMode}
+use Rattle.source.specs.declared.Instr.{Instr}
+use Rattle.source.specs.declared.Instr.the-variants.{Load}
 use Rattle.machine.specs.declared.Memory.{Memory}
 use Rattle.machine.specs.declared.Thread.{Thread}
 use Rattle.machine.specs.declared.Machine.{Machine}
 use Rattle.machine.specs.State.{has}
+use Rattle.machine.specs.Rules.{valueOf, address}
+use Rattle.cares.specs.Cares.{careOf}
+use Rattle.certify.specs.Tries.{NoBetter}
 use Rattle.step.specs.Step.{Step, step, taken}
 use Rattle.step.specs.Order.{execution}
 use Rattle.step.specs.Answers.{Here}
+use Rattle.step.specs.declared.Moved.{Moved}
 use Rattle.listing.proofs.Keys.{keyPromise}
 use Rattle.explore.specs.Explored.{Reached}
 use Rattle.tries.specs.Steps.{stepAt, Next}
 pub use Rattle.tries.specs.declared.Ahead.{Ahead}
 pub use Rattle.tries.specs.declared.Attempts.{Attempts}
+pub use Rattle.tries.specs.declared.Attempted.{Attempted}
 
 -- time k is worth a try
 abbrev pub timely : Attempts → ℕ → Bool
@@ -28,6 +39,25 @@ timely t (suc k) = has (t .later) (suc k)
 pub record Worth (c : Code) (m : Memory) (s : Thread) (t : Attempts) : Type 0 where
   pub times : (p : Program) (x : Machine) (i : ℕ) → Here c m s p x i → (k : ℕ) → timely t k ≡ false → taken (step p x (execution i k)) ≡ none
   pub promises : t .promises ≡ false → (p : Program) (x : Machine) (i : ℕ) → Here c m s p x i → (n : ℕ) → taken (step p x (keyPromise i n)) ≡ none
+
+-- the instruction is a load, and time u is no better for it than time t, as far as the cares ask of its register
+pub record Beaten (x : Instr) (m : Memory) (s : Thread) (t : ℕ) (cares : List ℕ) (u : ℕ) : Type 0 where
+  pub mode : LoadMode
+  pub register : ℕ
+  pub a : Operand
+  pub b : Operand
+  pub is-load : x ≡ Load mode register a b
+  pub no-better : NoBetter m s (address (valueOf s a + valueOf s b)) t (careOf cares register) u
+
+-- what is left of t after the try at a time: only times that are no better are worth no try any more
+pub record Narrowed (t : Attempts) (x : Instr) (m : Memory) (s : Thread) (time : ℕ) (cares : List ℕ) (r : Attempts) : Type 0 where
+  pub same-zero : r .zero ≡ t .zero
+  pub beaten : (u : ℕ) → T (has (t .later) u) → has (r .later) u ≡ false → Beaten x m s time cares u
+  pub same-promises : r .promises ≡ t .promises
+
+-- the step's answer, without what is left to try
+abbrev pub moved : Attempted → Moved
+moved r = record { answer = r .answer; thread = r .thread }
 
 -- the first time from k on that is worth a try, or 17
 pub record NextTime (t : Attempts) (k r : ℕ) : Type 0 where

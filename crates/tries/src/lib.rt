@@ -7,21 +7,31 @@ ghost use mathlib.Core.Option.{some};
 ghost use Prim.Native.Nat.{_+_, _≤_, _<_};
 ghost use Rattle.source.specs.Program.{instrAt};
 ghost use Rattle.source.specs.Counts.{storesFrom};
-ghost use Rattle.step.specs.Answers.{Moves};
+ghost use Rattle.machine.specs.Rules.{next, execute};
+ghost use Rattle.step.specs.declared.StepAnswer.the-variants.{Taken};
+ghost use Rattle.step.specs.Answers.{Settles, Executes, Moves};
 ghost use Rattle.step.specs.Order.{execution, promise};
 ghost use Rattle.certify.specs.Answers.{Ready};
 ghost use Rattle.certify.proofs.Law.{Sound};
 ghost use Rattle.tries.specs.Steps.{stepAt, Next, Numbered};
-ghost use Rattle.tries.specs.Worthwhile.{Worth, NextTime, Foreseen, Keepable};
+ghost use Rattle.tries.specs.Worthwhile.{moved, Worth, Narrowed, NextTime, Foreseen, Keepable};
+use cares::Cares;
+use certify::Sought;
+use certify::reach::search_runs;
+use certify::vain::passed_over;
 use explore::next_reached;
 use live::fewer_stores;
 use machine::Memory;
+use machine::RuleAnswer;
 use machine::Thread;
+use machine::promises::is_empty;
+use rules::execute;
+use rules::operands::address_of_sum;
+use rules::operands::value_of;
 use source::Code;
 use source::Instr;
-use step::Moved;
+use step::StepAnswer;
 use step::TraceStep;
-use step::execute_at;
 use step::promise_kept;
 use times::after;
 use times::at_zero;
@@ -38,6 +48,13 @@ pub struct Attempts {
 pub struct Ahead {
     pub next: u16,
     pub then: u16,
+}
+
+// The answer of a step of one thread; taken, the thread after it; and what is worth a try of it then.
+pub struct Attempted {
+    pub answer: StepAnswer,
+    pub thread: Thread,
+    pub left: Attempts,
 }
 
 fn execution(i: u8, t: u8) -> TraceStep
@@ -156,14 +173,100 @@ pub fn after_try(t: Attempts, c: Code, m: Memory, s: Thread, k: Ahead) -> Ahead
     next_try(t, c, m, s, k.next + 1)
 }
 
-// The step of a thread with the next instruction x. A step that has a number is of one of the two kinds. That a promise can be kept is
-// known from the exploration: it is not certified once more.
-pub fn attempt(x: Instr, c: Code, m: Memory, s: Thread, k: TraceStep) -> Moved
-    requires { ⌜ Ready c m s × (instrAt c (s .position) ≡ some x) × Numbered k × Sound m s × Keepable c m s k ⌝ }
-    ensures { λ r. ⌜ Moves c m s k r ⌝ }
+// What is left to try where the thread is not certified after x at a time: for a load, times that are no better would leave it so too, and
+// each would be certified in vain. Of another instruction nothing is known.
+fn narrowed(t: Attempts, x: Instr, m: Memory, s: Thread, time: u8, k: Cares) -> Attempts
+    requires { ⌜ time ≤ 16 ⌝ }
+    ensures { λ r. ⌜ Narrowed t x m s time (k .of) r ⌝ }
+{
+    match x {
+        Instr::Load(_, r, a, b) => {
+            let l = address_of_sum(value_of(s, a), value_of(s, b));
+            Attempts {
+                zero: t.zero,
+                later: passed_over(t.later, m, s, l, time, k.of_register(r)),
+                promises: t.promises,
+            }
+        }
+        Instr::Store(_, _, _) => t,
+        Instr::Compute(_, _, _, _) => t,
+        Instr::Branch(_, _, _) => t,
+        Instr::Fence(_) => t,
+    }
+}
+
+// The step is taken.
+fn took(s: Thread, t: Attempts) -> Attempted
+    ensures { λ r. ⌜ r ≡ record { answer = Taken; thread = s; left = t } ⌝ }
+{
+    Attempted {
+        answer: StepAnswer::Taken,
+        thread: s,
+        left: t,
+    }
+}
+
+// Thread i, which x at a time has brought from s to y, if it is certified there. If not, what that rests on rules out other times.
+fn settled(
+    t: Attempts,
+    x: Instr,
+    c: Code,
+    i: u8,
+    m: Memory,
+    s: Thread,
+    time: u8,
+    y: Thread,
+) -> Attempted
+    requires { ⌜ Ready c m y × (instrAt c (s .position) ≡ some x) × (execute x m time s ≡ next y) × Worth c m s t ⌝ }
+    ensures { λ r. ⌜ Settles c i m y (moved r) × Worth c m s (r .left) ⌝ }
+{
+    if is_empty(y.promises) {
+        return took(y, t);
+    }
+    let found = search_runs(c, i, m, y, Sought::certified());
+    if found.met.least == 0 {
+        return took(y, t);
+    }
+    let rests = found.cares;
+    Attempted {
+        answer: StepAnswer::Refused(29),
+        thread: y,
+        left: narrowed(t, x, m, s, time, rests),
+    }
+}
+
+// Thread i executes x, its next instruction, at a time. That the rule refuses one time rules out no other.
+fn execute_at(t: Attempts, x: Instr, c: Code, i: u8, m: Memory, s: Thread, time: u8) -> Attempted
+    requires { ⌜ Ready c m s × (instrAt c (s .position) ≡ some x) × Worth c m s t ⌝ }
+    ensures { λ r. ⌜ Executes c i m s time (moved r) × Worth c m s (r .left) ⌝ }
+{
+    let r = execute(x, m, time, s);
+    let answer = r.answer;
+    match answer {
+        RuleAnswer::Done => settled(t, x, c, i, m, s, time, r.thread),
+        RuleAnswer::Refused(k) => Attempted {
+            answer: StepAnswer::Refused(k),
+            thread: s,
+            left: t,
+        },
+    }
+}
+
+// The step of a thread with the next instruction x; t is worth a try before it. A step that has a number is of one of the two kinds. That a
+// promise can be kept is known from the exploration: it is not certified once more.
+pub fn attempt(t: Attempts, x: Instr, c: Code, m: Memory, s: Thread, k: TraceStep) -> Attempted
+    requires { ⌜ Ready c m s × (instrAt c (s .position) ≡ some x) × Numbered k × Sound m s × Keepable c m s k × Worth c m s t ⌝ }
+    ensures { λ r. ⌜ Moves c m s k (moved r) × Worth c m s (r .left) ⌝ }
 {
     if k.kind == 0 {
-        return execute_at(x, c, k.thread, m, s, k.a);
+        return execute_at(t, x, c, k.thread, m, s, k.a);
     }
-    promise_kept(k.thread, m, s, k.a, k.b)
+    let r = promise_kept(k.thread, m, s, k.a, k.b);
+    let answer = r.answer;
+    let y = r.thread;
+    Attempted {
+        answer: answer,
+        thread: y,
+        left: t,
+    }
 }

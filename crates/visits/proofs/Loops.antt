@@ -190,16 +190,16 @@ module _ {p : Program} {x : Machine} {d left : ℕ} {old : List ℕ} {m : Memory
     pub same-others : (o' : Machine) → o' ≡ o → Others x i o'
     same-others o' e a = ap (λ (z : Machine). set (z .threads) i a) e ∙ U .others a
 
-    -- on to the next try, with b left
-    pub on : (b rest' : ℕ) (k' : Ahead) (mid new : List ℕ) (o' : Machine) → Others x i o' → k .next < 4113 → BeforeStep p x (visiting p x left) i (k .next + 1) b × (mid ≡ area) → new ≡ mid → rest' ≡ b
-        → Next stepAt 4113 c m s (k .next + 1) (k' .next) × Foreseen c m s k' → AtStep p x d left old m i c s w t o' new rest' k'
-    on b rest' k' mid new o' others l v e f nx =
+    -- on to the next try, with b left of the budget and t' to try
+    pub on : (t' : Attempts) → Worth c m s t' → (b rest' : ℕ) (k' : Ahead) (mid new : List ℕ) (o' : Machine) → Others x i o' → k .next < 4113 → BeforeStep p x (visiting p x left) i (k .next + 1) b × (mid ≡ area) → new ≡ mid → rest' ≡ b
+        → Next stepAt 4113 c m s (k .next + 1) (k' .next) × Foreseen c m s k' → AtStep p x d left old m i c s w t' o' new rest' k'
+    on t' worth b rest' k' mid new o' others l v e f nx =
         record {
           ready = U .ready;
           here = U .here;
           next-is = U .next-is;
           others = others;
-          worth = U .worth;
+          worth = worth;
           in-program = U .in-program;
           ahead = nx .1;
           same = e ∙ v .1 ∙ U .same;

@@ -61,11 +61,12 @@ fn walk(
         let c = p.codes[i as usize];
         let s = x.threads[i as usize];
         let w = c.instr_at(s.position);
-        let t = tries_of(w, c, m, s);
+        let mut t = tries_of(w, c, m, s);
         let mut k = next_try(t, c, m, s, 0);
         while k.next < 4113 {
             let step = step_at(i, k.next);
-            let r = attempt(w, c, m, s, step);
+            let r = attempt(t, w, c, m, s, step);
+            t = r.left;
             let answer = r.answer;
             if let StepAnswer::Taken = answer {
                 y.memory = memory_after(m, step);

@@ -3,6 +3,7 @@
 use Rattle.visits.proofs.Loops.{AtThread, AtStep, enters, code-at, thread-at, thread-ready, next-there, first, ends, leaves, answers, step-ready, step-sound, step-kept, set-others, same-others, on, is-numbered, is-rejected, lower, ready-below, goes-on, runs-out, finds}
 use Rattle.arrivals.proofs.Known.{Trusted, trusted-on, trusted-as, trusted-to, told-as, is-over, is-open, rest-within, still-true}
 use Rattle.step.proofs.Bound.{potential}
+use Rattle.tries.specs.Worthwhile.{moved}
 use Rattle.machine.specs.declared.Machine.{Machine}
 use Rattle.source.proofs.Arrays.{length-mapped}
 use borrow.Author.Needs.{needs}
@@ -40,10 +41,10 @@ abbrev walk-below : ℕ → In 2 walk-kinds.ps
 walk-below t = and 2 walk-kinds.ps (falls 2 walk-kinds.ps _<_ μ-walk t) walk.Pre
 
 abbrev walk-Inv-loop2 : walk-lts.InvT-loop2
-walk-Inv-loop2 first slot depth left area₀ table₀ p x m y₀ rest₀ i c s w t k₀ area table y rest k = AtStep p x depth left area₀ m i c s w t y area rest k × Trusted p table₀ table
+walk-Inv-loop2 first slot depth left area₀ table₀ p x m y₀ rest₀ i c s w t₀ k₀ area table y rest t k = AtStep p x depth left area₀ m i c s w t y area rest k × Trusted p table₀ table
 
 abbrev walk-μ-loop2 : walk-lts.MeasureT-loop2
-walk-μ-loop2 first slot depth left area₀ table₀ p x m y₀ rest₀ i c s w t k₀ area table y rest k = 4113 - k .next
+walk-μ-loop2 first slot depth left area₀ table₀ p x m y₀ rest₀ i c s w t₀ k₀ area table y rest t k = 4113 - k .next
 
 abbrev walk-Inv-loop : walk-lts.InvT-loop
 walk-Inv-loop first slot depth left area₀ table₀ p x m y₀ rest₀ i₀ area table y rest i = AtThread p x depth left area₀ m y area rest i × Trusted p table₀ table
@@ -101,7 +102,7 @@ walk-step-at-requires : (t : ℕ) → walk-lts.Need-step-at-requires (walk-claim
 walk-step-at-requires t c κs = c .if1 .taken
 
 walk-attempt-requires : (t : ℕ) → walk-lts.Need-attempt-requires (walk-claims t) (walk-at t) walk.Post walk-Inv-loop2 walk-μ-loop2 walk-Inv-loop walk-μ-loop
-walk-attempt-requires t c κs = let u = c .before .before .before .loop2 .inv .0 in (step-ready u, u .next-is, is-numbered _ _ _ (c .step-at .ensures), step-sound u, step-kept u (c .before .if1 .taken) _ (c .step-at .ensures))
+walk-attempt-requires t c κs = let u = c .before .before .before .loop2 .inv .0 in (step-ready u, u .next-is, is-numbered _ _ _ (c .step-at .ensures), step-sound u, step-kept u (c .before .if1 .taken) _ (c .step-at .ensures), u .worth)
 
 walk-enum-told : (t : ℕ) → walk-lts.Need-enum-told (walk-claims t) (walk-at t) walk.Post walk-Inv-loop2 walk-μ-loop2 walk-Inv-loop walk-μ-loop
 walk-enum-told t c = search needs
@@ -110,19 +111,19 @@ walk-memory-after-requires : (t : ℕ) → walk-lts.Need-memory-after-requires (
 walk-memory-after-requires t c κs = search needs
 
 walk-cast-q : (t : ℕ) → walk-lts.Need-cast-q (walk-claims t) (walk-at t) walk.Post walk-Inv-loop2 walk-μ-loop2 walk-Inv-loop walk-μ-loop
-walk-cast-q t c = omega (arith, c .before .before .before .before .before .before .before .before .before .before .before .before .before .before .loop-test .taken)
+walk-cast-q t c = omega (arith, c .before .before .before .before .before .before .before .before .before .before .before .before .before .before .before .loop-test .taken)
 
 walk-mul-q : (t : ℕ) → walk-lts.Need-mul-q (walk-claims t) (walk-at t) walk.Post walk-Inv-loop2 walk-μ-loop2 walk-Inv-loop walk-μ-loop
-walk-mul-q t c = let l = c .before .before .before .before .before .before .before .before .before .before .before .before .before .before .loop-test .taken in omega arith
+walk-mul-q t c = let l = c .before .before .before .before .before .before .before .before .before .before .before .before .before .before .before .loop-test .taken in omega arith
 
 walk-element-set-from-q : (t : ℕ) → walk-lts.Need-element-set-from-q (walk-claims t) (walk-at t) walk.Post walk-Inv-loop2 walk-μ-loop2 walk-Inv-loop walk-μ-loop
-walk-element-set-from-q t c = c .before .before .before .before .before .before .before .before .before .before .before .before .before .before .loop-test .taken
+walk-element-set-from-q t c = c .before .before .before .before .before .before .before .before .before .before .before .before .before .before .before .loop-test .taken
 
 walk-add-arrive : (t : ℕ) → walk-lts.Need-add-arrive (walk-claims t) (walk-at t) walk.Post walk-Inv-loop2 walk-μ-loop2 walk-Inv-loop walk-μ-loop
-walk-add-arrive t c = let r = ready-below (c .before .before .before .before .before .before .before .before .loop2 .inv .0) (c .before .before .before .before .before .before .if1 .taken) _ (c .before .before .before .before .before .step-at .ensures) (c .before .before .before .before .attempt .result) (c .before .before .before .before .attempt .ensures) (c .before .before .enum-told .given .1) _ (c .before .memory-after .ensures) _ refl .room in let e = ap length (c .before .before .before .before .before .before .before .before .loop2 .inv .0 .same) in let f = ap length (c .before .before .before .before .before .before .before .before .before .before .before .before .before .before .before .loop .inv .0 .same) in omega (arith, c .before .before .before .before .before .before .before .before .before .before .before .before .before .before .before .before .before .before .before)
+walk-add-arrive t c = let r = ready-below (c .before .before .before .before .before .before .before .before .before .loop2 .inv .0) (c .before .before .before .before .before .before .before .if1 .taken) _ (c .before .before .before .before .before .before .step-at .ensures) (moved (c .before .before .before .before .before .attempt .result)) (c .before .before .before .before .before .attempt .ensures .0) (c .before .before .enum-told .given .1) _ (c .before .memory-after .ensures) _ refl .room in let e = ap length (c .before .before .before .before .before .before .before .before .before .loop2 .inv .0 .same) in let f = ap length (c .before .before .before .before .before .before .before .before .before .before .before .before .before .before .before .before .loop .inv .0 .same) in omega (arith, c .before .before .before .before .before .before .before .before .before .before .before .before .before .before .before .before .before .before .before .before)
 
 walk-arrive-requires : (t : ℕ) → walk-lts.Need-arrive-requires (walk-claims t) (walk-at t) walk.Post walk-Inv-loop2 walk-μ-loop2 walk-Inv-loop walk-μ-loop
-walk-arrive-requires t c κs = (ready-below (c .before .before .before .before .before .before .before .before .before .loop2 .inv .0) (c .before .before .before .before .before .before .before .if1 .taken) _ (c .before .before .before .before .before .before .step-at .ensures) (c .before .before .before .before .before .attempt .result) (c .before .before .before .before .before .attempt .ensures) (c .before .before .before .enum-told .given .1) _ (c .before .before .memory-after .ensures) _ refl .well, c .before .before .before .before .before .before .before .before .before .loop2 .inv .1 .holds)
+walk-arrive-requires t c κs = (ready-below (c .before .before .before .before .before .before .before .before .before .before .loop2 .inv .0) (c .before .before .before .before .before .before .before .before .if1 .taken) _ (c .before .before .before .before .before .before .before .step-at .ensures) (moved (c .before .before .before .before .before .before .attempt .result)) (c .before .before .before .before .before .before .attempt .ensures .0) (c .before .before .before .enum-told .given .1) _ (c .before .before .memory-after .ensures) _ refl .well, c .before .before .before .before .before .before .before .before .before .before .loop2 .inv .1 .holds)
 
 walk-enum-known-o : (t : ℕ) → walk-lts.Need-enum-known-o (walk-claims t) (walk-at t) walk.Post walk-Inv-loop2 walk-μ-loop2 walk-Inv-loop walk-μ-loop
 walk-enum-known-o t c = search needs
@@ -131,10 +132,10 @@ walk-enum-known-f : (t : ℕ) → walk-lts.Need-enum-known-f (walk-claims t) (wa
 walk-enum-known-f t c = search needs
 
 walk-add-walk : (t : ℕ) → walk-lts.Need-add-walk (walk-claims t) (walk-at t) walk.Post walk-Inv-loop2 walk-μ-loop2 walk-Inv-loop walk-μ-loop
-walk-add-walk t c = let r = ready-below (c .before .before .before .before .before .before .before .before .before .before .before .before .before .loop2 .inv .0) (c .before .before .before .before .before .before .before .before .before .before .before .if1 .taken) _ (c .before .before .before .before .before .before .before .before .before .before .step-at .ensures) (c .before .before .before .before .before .before .before .before .before .attempt .result) (c .before .before .before .before .before .before .before .before .before .attempt .ensures) (c .before .before .before .before .before .before .before .enum-told .given .1) _ (c .before .before .before .before .before .before .memory-after .ensures) _ refl .room in let e = ap length (c .before .before .before .before .before .before .before .before .before .before .before .before .before .loop2 .inv .0 .same) in let f = ap length (c .before .before .before .before .before .before .before .before .before .before .before .before .before .before .before .before .before .before .before .before .loop .inv .0 .same) in omega (arith, c .before .before .before .before .before .before .before .before .before .before .before .before .before .before .before .before .before .before .before .before .before .before .before .before)
+walk-add-walk t c = let r = ready-below (c .before .before .before .before .before .before .before .before .before .before .before .before .before .before .loop2 .inv .0) (c .before .before .before .before .before .before .before .before .before .before .before .before .if1 .taken) _ (c .before .before .before .before .before .before .before .before .before .before .before .step-at .ensures) (moved (c .before .before .before .before .before .before .before .before .before .before .attempt .result)) (c .before .before .before .before .before .before .before .before .before .before .attempt .ensures .0) (c .before .before .before .before .before .before .before .enum-told .given .1) _ (c .before .before .before .before .before .before .memory-after .ensures) _ refl .room in let e = ap length (c .before .before .before .before .before .before .before .before .before .before .before .before .before .before .loop2 .inv .0 .same) in let f = ap length (c .before .before .before .before .before .before .before .before .before .before .before .before .before .before .before .before .before .before .before .before .before .loop .inv .0 .same) in omega (arith, c .before .before .before .before .before .before .before .before .before .before .before .before .before .before .before .before .before .before .before .before .before .before .before .before .before)
 
 walk-walk-requires : (t : ℕ) → walk-lts.Need-walk-requires (walk-claims t) (walk-at t) walk.Post walk-Inv-loop2 walk-μ-loop2 walk-Inv-loop walk-μ-loop
-walk-walk-requires t c κs = (let l = lower (c .before .before .before .before .before .before .before .before .before .before .before .before .before .before .before .loop2 .inv .0) (c .before .before .before .before .before .before .before .before .before .before .before .before .before .if1 .taken) _ (c .before .before .before .before .before .before .before .before .before .before .before .before .step-at .ensures) (c .before .before .before .before .before .before .before .before .before .before .before .attempt .result) (c .before .before .before .before .before .before .before .before .before .before .before .attempt .ensures) (c .before .before .before .before .before .before .before .before .before .enum-told .given .1) _ (c .before .before .before .before .before .before .before .before .memory-after .ensures) _ refl in omega (arith, c .before .before .before .before .before .before .before .before .before .before .before .before .before .before .before .before .before .before .before .before .before .before .before .before .before .before .pre .0), (ready-below (c .before .before .before .before .before .before .before .before .before .before .before .before .before .before .before .loop2 .inv .0) (c .before .before .before .before .before .before .before .before .before .before .before .before .before .if1 .taken) _ (c .before .before .before .before .before .before .before .before .before .before .before .before .step-at .ensures) (c .before .before .before .before .before .before .before .before .before .before .before .attempt .result) (c .before .before .before .before .before .before .before .before .before .before .before .attempt .ensures) (c .before .before .before .before .before .before .before .before .before .enum-told .given .1) _ (c .before .before .before .before .before .before .before .before .memory-after .ensures) _ refl, is-open _ _ _ _ _ _ (c .before .before .before .before .before .arrive .ensures) _ _ (c .before .before .before .f .given .1), c .before .before .before .before .before .before .before .before .before .before .before .before .before .before .before .loop2 .inv .1 .holds))
+walk-walk-requires t c κs = (let l = lower (c .before .before .before .before .before .before .before .before .before .before .before .before .before .before .before .before .loop2 .inv .0) (c .before .before .before .before .before .before .before .before .before .before .before .before .before .before .if1 .taken) _ (c .before .before .before .before .before .before .before .before .before .before .before .before .before .step-at .ensures) (moved (c .before .before .before .before .before .before .before .before .before .before .before .before .attempt .result)) (c .before .before .before .before .before .before .before .before .before .before .before .before .attempt .ensures .0) (c .before .before .before .before .before .before .before .before .before .enum-told .given .1) _ (c .before .before .before .before .before .before .before .before .memory-after .ensures) _ refl in omega (arith, c .before .before .before .before .before .before .before .before .before .before .before .before .before .before .before .before .before .before .before .before .before .before .before .before .before .before .before .pre .0), (ready-below (c .before .before .before .before .before .before .before .before .before .before .before .before .before .before .before .before .loop2 .inv .0) (c .before .before .before .before .before .before .before .before .before .before .before .before .before .before .if1 .taken) _ (c .before .before .before .before .before .before .before .before .before .before .before .before .before .step-at .ensures) (moved (c .before .before .before .before .before .before .before .before .before .before .before .before .attempt .result)) (c .before .before .before .before .before .before .before .before .before .before .before .before .attempt .ensures .0) (c .before .before .before .before .before .before .before .before .before .enum-told .given .1) _ (c .before .before .before .before .before .before .before .before .memory-after .ensures) _ refl, is-open _ _ _ _ _ _ (c .before .before .before .before .before .arrive .ensures) _ _ (c .before .before .before .f .given .1), c .before .before .before .before .before .before .before .before .before .before .before .before .before .before .before .before .loop2 .inv .1 .holds))
 
 walk-enum-known-ran : (t : ℕ) → walk-lts.Need-enum-known-ran (walk-claims t) (walk-at t) walk.Post walk-Inv-loop2 walk-μ-loop2 walk-Inv-loop walk-μ-loop
 walk-enum-known-ran t c = search needs
@@ -143,51 +144,51 @@ walk-enum-known-ran-2 : (t : ℕ) → walk-lts.Need-enum-known-ran-2 (walk-claim
 walk-enum-known-ran-2 t c = search needs
 
 walk-mul-put-step : (t : ℕ) → walk-lts.Need-mul-put-step (walk-claims t) (walk-at t) walk.Post walk-Inv-loop2 walk-μ-loop2 walk-Inv-loop walk-μ-loop
-walk-mul-put-step t c = let r = ready-below (c .before .before .before .before .before .before .before .before .before .before .before .before .before .before .before .loop2 .inv .0) (c .before .before .before .before .before .before .before .before .before .before .before .before .before .if1 .taken) _ (c .before .before .before .before .before .before .before .before .before .before .before .before .step-at .ensures) (c .before .before .before .before .before .before .before .before .before .before .before .attempt .result) (c .before .before .before .before .before .before .before .before .before .before .before .attempt .ensures) (c .before .before .before .before .before .before .before .before .before .enum-told .given .1) _ (c .before .before .before .before .before .before .before .before .memory-after .ensures) _ refl .room in let e = ap length (c .before .before .before .before .before .before .before .before .before .before .before .before .before .before .before .loop2 .inv .0 .same) in let f = ap length (c .before .before .before .before .before .before .before .before .before .before .before .before .before .before .before .before .before .before .before .before .before .before .loop .inv .0 .same) in omega (arith, c .before .before .before .before .before .before .before .before .before .before .before .before .before .before .before .before .before .before .before .before .before .before .before .before .before .before)
+walk-mul-put-step t c = let r = ready-below (c .before .before .before .before .before .before .before .before .before .before .before .before .before .before .before .before .loop2 .inv .0) (c .before .before .before .before .before .before .before .before .before .before .before .before .before .before .if1 .taken) _ (c .before .before .before .before .before .before .before .before .before .before .before .before .before .step-at .ensures) (moved (c .before .before .before .before .before .before .before .before .before .before .before .before .attempt .result)) (c .before .before .before .before .before .before .before .before .before .before .before .before .attempt .ensures .0) (c .before .before .before .before .before .before .before .before .before .enum-told .given .1) _ (c .before .before .before .before .before .before .before .before .memory-after .ensures) _ refl .room in let e = ap length (c .before .before .before .before .before .before .before .before .before .before .before .before .before .before .before .before .loop2 .inv .0 .same) in let f = ap length (c .before .before .before .before .before .before .before .before .before .before .before .before .before .before .before .before .before .before .before .before .before .before .before .loop .inv .0 .same) in omega (arith, c .before .before .before .before .before .before .before .before .before .before .before .before .before .before .before .before .before .before .before .before .before .before .before .before .before .before .before)
 
 walk-put-step-requires : (t : ℕ) → walk-lts.Need-put-step-requires (walk-claims t) (walk-at t) walk.Post walk-Inv-loop2 walk-μ-loop2 walk-Inv-loop walk-μ-loop
-walk-put-step-requires t c κs = let r = ready-below (c .before .before .before .before .before .before .before .before .before .before .before .before .before .before .before .loop2 .inv .0) (c .before .before .before .before .before .before .before .before .before .before .before .before .before .if1 .taken) _ (c .before .before .before .before .before .before .before .before .before .before .before .before .step-at .ensures) (c .before .before .before .before .before .before .before .before .before .before .before .attempt .result) (c .before .before .before .before .before .before .before .before .before .before .before .attempt .ensures) (c .before .before .before .before .before .before .before .before .before .enum-told .given .1) _ (c .before .before .before .before .before .before .before .before .memory-after .ensures) _ refl .room in let l : length (c .before .before .before .before .match2 .area) ≡ length (c .before .before .before .before .before .before .before .before .before .before .before .before .before .before .before .loop2 .area) = (⊎-elim (λ v. ap length (v .3)) (λ v. ap length (v .10) ∙ v .5 .kept .1 .1 .1 .1 .1 .1 .0) (c .before .before .before .before .match2 .came)) in omega arith
+walk-put-step-requires t c κs = let r = ready-below (c .before .before .before .before .before .before .before .before .before .before .before .before .before .before .before .before .loop2 .inv .0) (c .before .before .before .before .before .before .before .before .before .before .before .before .before .before .if1 .taken) _ (c .before .before .before .before .before .before .before .before .before .before .before .before .before .step-at .ensures) (moved (c .before .before .before .before .before .before .before .before .before .before .before .before .attempt .result)) (c .before .before .before .before .before .before .before .before .before .before .before .before .attempt .ensures .0) (c .before .before .before .before .before .before .before .before .before .enum-told .given .1) _ (c .before .before .before .before .before .before .before .before .memory-after .ensures) _ refl .room in let l : length (c .before .before .before .before .match2 .area) ≡ length (c .before .before .before .before .before .before .before .before .before .before .before .before .before .before .before .before .loop2 .area) = (⊎-elim (λ v. ap length (v .3)) (λ v. ap length (v .10) ∙ v .5 .kept .1 .1 .1 .1 .1 .1 .0) (c .before .before .before .before .match2 .came)) in omega arith
 
 walk-same-length : (t : ℕ) → walk-lts.Need-same-length (walk-claims t) (walk-at t) walk.Post walk-Inv-loop2 walk-μ-loop2 walk-Inv-loop walk-μ-loop
-walk-same-length t c = c .before .before .put-step .kept .0 ∙ (⊎-elim (λ v. ap length (v .3)) (λ v. ap length (v .10) ∙ v .5 .kept .1 .1 .1 .1 .1 .1 .0) (c .before .before .before .before .before .before .before .match2 .came)) ∙ ap length (c .before .before .before .before .before .before .before .before .before .before .before .before .before .before .before .before .before .before .loop2 .inv .0 .same) ∙ ap length (c .before .before .before .before .before .before .before .before .before .before .before .before .before .before .before .before .before .before .before .before .before .before .before .before .before .loop .inv .0 .same)
+walk-same-length t c = c .before .before .put-step .kept .0 ∙ (⊎-elim (λ v. ap length (v .3)) (λ v. ap length (v .10) ∙ v .5 .kept .1 .1 .1 .1 .1 .1 .0) (c .before .before .before .before .before .before .before .match2 .came)) ∙ ap length (c .before .before .before .before .before .before .before .before .before .before .before .before .before .before .before .before .before .before .before .loop2 .inv .0 .same) ∙ ap length (c .before .before .before .before .before .before .before .before .before .before .before .before .before .before .before .before .before .before .before .before .before .before .before .before .before .before .loop .inv .0 .same)
 
 walk-same-length-2 : (t : ℕ) → walk-lts.Need-same-length-2 (walk-claims t) (walk-at t) walk.Post walk-Inv-loop2 walk-μ-loop2 walk-Inv-loop walk-μ-loop
-walk-same-length-2 t c = trusted-on (c .before .before .before .before .before .before .before .before .before .before .before .before .before .before .before .before .before .before .before .before .before .before .before .before .before .loop .inv .1) (trusted-on (c .before .before .before .before .before .before .before .before .before .before .before .before .before .before .before .before .before .before .loop2 .inv .1) (⊎-elim (λ v. trusted-as (c .before .before .before .before .before .before .before .before .before .before .before .before .before .before .before .before .before .before .loop2 .inv .1 .holds) refl (v .4)) (λ v. trusted-as (v .5 .ensures .1) (v .5 .kept .1 .1 .1 .1 .1 .1 .1 .0) (v .11)) (c .before .before .before .before .before .before .before .match2 .came))) .as-long
+walk-same-length-2 t c = trusted-on (c .before .before .before .before .before .before .before .before .before .before .before .before .before .before .before .before .before .before .before .before .before .before .before .before .before .before .loop .inv .1) (trusted-on (c .before .before .before .before .before .before .before .before .before .before .before .before .before .before .before .before .before .before .before .loop2 .inv .1) (⊎-elim (λ v. trusted-as (c .before .before .before .before .before .before .before .before .before .before .before .before .before .before .before .before .before .before .before .loop2 .inv .1 .holds) refl (v .4)) (λ v. trusted-as (v .5 .ensures .1) (v .5 .kept .1 .1 .1 .1 .1 .1 .1 .0) (v .11)) (c .before .before .before .before .before .before .before .match2 .came))) .as-long
 
 walk-returns : (t : ℕ) → walk-lts.Need-returns (walk-claims t) (walk-at t) walk.Post walk-Inv-loop2 walk-μ-loop2 walk-Inv-loop walk-μ-loop
-walk-returns t c = (answers (c .before .before .before .before .before .before .before .before .before .before .before .before .before .before .before .before .before .before .before .before .before .before .before .before .before .loop .inv .0) (finds (c .before .before .before .before .before .before .before .before .before .before .before .before .before .before .before .before .before .before .loop2 .inv .0) (c .before .before .before .before .before .before .before .before .before .before .before .before .before .before .before .before .if1 .taken) _ (c .before .before .before .before .before .before .before .before .before .before .before .before .before .before .before .step-at .ensures) (c .before .before .before .before .before .before .before .before .before .before .before .before .before .before .attempt .result) (c .before .before .before .before .before .before .before .before .before .before .before .before .before .before .attempt .ensures) (c .before .before .before .before .before .before .before .before .before .before .before .before .enum-told .given .1) _ (c .before .before .before .before .before .before .before .before .before .before .before .memory-after .ensures) _ refl (c .before .before .before .before .before .before .before .match2 .ran) (c .before .before .before .before .before .before .before .match2 .area) (⊎-elim (λ v. is-over _ _ _ _ _ _ (c .before .before .before .before .before .before .before .before .arrive .ensures) _ _ (v .1 .given .1) (v .5) _ _ (v .3)) (λ v. told-as (v .5 .ensures .0) (v .12) (v .10)) (c .before .before .before .before .before .before .before .match2 .came)) _ _ (c .before .before .before .before .before .ran2 .given .1) _ (c .before .before .put-step .ensures)), trusted-on (c .before .before .before .before .before .before .before .before .before .before .before .before .before .before .before .before .before .before .loop2 .inv .1) (⊎-elim (λ v. trusted-as (c .before .before .before .before .before .before .before .before .before .before .before .before .before .before .before .before .before .before .loop2 .inv .1 .holds) refl (v .4)) (λ v. trusted-as (v .5 .ensures .1) (v .5 .kept .1 .1 .1 .1 .1 .1 .1 .0) (v .11)) (c .before .before .before .before .before .before .before .match2 .came)) .holds)
+walk-returns t c = (answers (c .before .before .before .before .before .before .before .before .before .before .before .before .before .before .before .before .before .before .before .before .before .before .before .before .before .before .loop .inv .0) (finds (c .before .before .before .before .before .before .before .before .before .before .before .before .before .before .before .before .before .before .before .loop2 .inv .0) (c .before .before .before .before .before .before .before .before .before .before .before .before .before .before .before .before .before .if1 .taken) _ (c .before .before .before .before .before .before .before .before .before .before .before .before .before .before .before .before .step-at .ensures) (moved (c .before .before .before .before .before .before .before .before .before .before .before .before .before .before .before .attempt .result)) (c .before .before .before .before .before .before .before .before .before .before .before .before .before .before .before .attempt .ensures .0) (c .before .before .before .before .before .before .before .before .before .before .before .before .enum-told .given .1) _ (c .before .before .before .before .before .before .before .before .before .before .before .memory-after .ensures) _ refl (c .before .before .before .before .before .before .before .match2 .ran) (c .before .before .before .before .before .before .before .match2 .area) (⊎-elim (λ v. is-over _ _ _ _ _ _ (c .before .before .before .before .before .before .before .before .arrive .ensures) _ _ (v .1 .given .1) (v .5) _ _ (v .3)) (λ v. told-as (v .5 .ensures .0) (v .12) (v .10)) (c .before .before .before .before .before .before .before .match2 .came)) _ _ (c .before .before .before .before .before .ran2 .given .1) _ (c .before .before .put-step .ensures)), trusted-on (c .before .before .before .before .before .before .before .before .before .before .before .before .before .before .before .before .before .before .before .loop2 .inv .1) (⊎-elim (λ v. trusted-as (c .before .before .before .before .before .before .before .before .before .before .before .before .before .before .before .before .before .before .before .loop2 .inv .1 .holds) refl (v .4)) (λ v. trusted-as (v .5 .ensures .1) (v .5 .kept .1 .1 .1 .1 .1 .1 .1 .0) (v .11)) (c .before .before .before .before .before .before .before .match2 .came)) .holds)
 
 walk-enum-told-2 : (t : ℕ) → walk-lts.Need-enum-told-2 (walk-claims t) (walk-at t) walk.Post walk-Inv-loop2 walk-μ-loop2 walk-Inv-loop walk-μ-loop
 walk-enum-told-2 t c = search needs
 
 walk-same-length-3 : (t : ℕ) → walk-lts.Need-same-length-3 (walk-claims t) (walk-at t) walk.Post walk-Inv-loop2 walk-μ-loop2 walk-Inv-loop walk-μ-loop
-walk-same-length-3 t c = (⊎-elim (λ v. ap length (v .3)) (λ v. ap length (v .10) ∙ v .5 .kept .1 .1 .1 .1 .1 .1 .0) (c .before .before .match2 .came)) ∙ ap length (c .before .before .before .before .before .before .before .before .before .before .before .before .before .loop2 .inv .0 .same) ∙ ap length (c .before .before .before .before .before .before .before .before .before .before .before .before .before .before .before .before .before .before .before .before .loop .inv .0 .same)
+walk-same-length-3 t c = (⊎-elim (λ v. ap length (v .3)) (λ v. ap length (v .10) ∙ v .5 .kept .1 .1 .1 .1 .1 .1 .0) (c .before .before .match2 .came)) ∙ ap length (c .before .before .before .before .before .before .before .before .before .before .before .before .before .before .loop2 .inv .0 .same) ∙ ap length (c .before .before .before .before .before .before .before .before .before .before .before .before .before .before .before .before .before .before .before .before .before .loop .inv .0 .same)
 
 walk-same-length-4 : (t : ℕ) → walk-lts.Need-same-length-4 (walk-claims t) (walk-at t) walk.Post walk-Inv-loop2 walk-μ-loop2 walk-Inv-loop walk-μ-loop
-walk-same-length-4 t c = trusted-on (c .before .before .before .before .before .before .before .before .before .before .before .before .before .before .before .before .before .before .before .before .loop .inv .1) (trusted-on (c .before .before .before .before .before .before .before .before .before .before .before .before .before .loop2 .inv .1) (⊎-elim (λ v. trusted-as (c .before .before .before .before .before .before .before .before .before .before .before .before .before .loop2 .inv .1 .holds) refl (v .4)) (λ v. trusted-as (v .5 .ensures .1) (v .5 .kept .1 .1 .1 .1 .1 .1 .1 .0) (v .11)) (c .before .before .match2 .came))) .as-long
+walk-same-length-4 t c = trusted-on (c .before .before .before .before .before .before .before .before .before .before .before .before .before .before .before .before .before .before .before .before .before .loop .inv .1) (trusted-on (c .before .before .before .before .before .before .before .before .before .before .before .before .before .before .loop2 .inv .1) (⊎-elim (λ v. trusted-as (c .before .before .before .before .before .before .before .before .before .before .before .before .before .before .loop2 .inv .1 .holds) refl (v .4)) (λ v. trusted-as (v .5 .ensures .1) (v .5 .kept .1 .1 .1 .1 .1 .1 .1 .0) (v .11)) (c .before .before .match2 .came))) .as-long
 
 walk-returns-2 : (t : ℕ) → walk-lts.Need-returns-2 (walk-claims t) (walk-at t) walk.Post walk-Inv-loop2 walk-μ-loop2 walk-Inv-loop walk-μ-loop
-walk-returns-2 t c = (answers (c .before .before .before .before .before .before .before .before .before .before .before .before .before .before .before .before .before .before .before .before .loop .inv .0) (runs-out (c .before .before .before .before .before .before .before .before .before .before .before .before .before .loop2 .inv .0) (c .before .before .before .before .before .before .before .before .before .before .before .if1 .taken) _ (c .before .before .before .before .before .before .before .before .before .before .step-at .ensures) (c .before .before .before .before .before .before .before .before .before .attempt .result) (c .before .before .before .before .before .before .before .before .before .attempt .ensures) (c .before .before .before .before .before .before .before .enum-told .given .1) _ (c .before .before .before .before .before .before .memory-after .ensures) _ refl (c .before .before .match2 .ran) (c .before .before .match2 .area) (⊎-elim (λ v. is-over _ _ _ _ _ _ (c .before .before .before .arrive .ensures) _ _ (v .1 .given .1) (v .5) _ _ (v .3)) (λ v. told-as (v .5 .ensures .0) (v .12) (v .10)) (c .before .before .match2 .came)) (c .enum-told2 .given .1)), trusted-on (c .before .before .before .before .before .before .before .before .before .before .before .before .before .loop2 .inv .1) (⊎-elim (λ v. trusted-as (c .before .before .before .before .before .before .before .before .before .before .before .before .before .loop2 .inv .1 .holds) refl (v .4)) (λ v. trusted-as (v .5 .ensures .1) (v .5 .kept .1 .1 .1 .1 .1 .1 .1 .0) (v .11)) (c .before .before .match2 .came)) .holds)
+walk-returns-2 t c = (answers (c .before .before .before .before .before .before .before .before .before .before .before .before .before .before .before .before .before .before .before .before .before .loop .inv .0) (runs-out (c .before .before .before .before .before .before .before .before .before .before .before .before .before .before .loop2 .inv .0) (c .before .before .before .before .before .before .before .before .before .before .before .before .if1 .taken) _ (c .before .before .before .before .before .before .before .before .before .before .before .step-at .ensures) (moved (c .before .before .before .before .before .before .before .before .before .before .attempt .result)) (c .before .before .before .before .before .before .before .before .before .before .attempt .ensures .0) (c .before .before .before .before .before .before .before .enum-told .given .1) _ (c .before .before .before .before .before .before .memory-after .ensures) _ refl (c .before .before .match2 .ran) (c .before .before .match2 .area) (⊎-elim (λ v. is-over _ _ _ _ _ _ (c .before .before .before .arrive .ensures) _ _ (v .1 .given .1) (v .5) _ _ (v .3)) (λ v. told-as (v .5 .ensures .0) (v .12) (v .10)) (c .before .before .match2 .came)) (c .enum-told2 .given .1)), trusted-on (c .before .before .before .before .before .before .before .before .before .before .before .before .before .before .loop2 .inv .1) (⊎-elim (λ v. trusted-as (c .before .before .before .before .before .before .before .before .before .before .before .before .before .before .loop2 .inv .1 .holds) refl (v .4)) (λ v. trusted-as (v .5 .ensures .1) (v .5 .kept .1 .1 .1 .1 .1 .1 .1 .0) (v .11)) (c .before .before .match2 .came)) .holds)
 
 walk-enum-told-3 : (t : ℕ) → walk-lts.Need-enum-told-3 (walk-claims t) (walk-at t) walk.Post walk-Inv-loop2 walk-μ-loop2 walk-Inv-loop walk-μ-loop
 walk-enum-told-3 t c = search needs
 
 walk-after-try-requires : (t : ℕ) → walk-lts.Need-after-try-requires (walk-claims t) (walk-at t) walk.Post walk-Inv-loop2 walk-μ-loop2 walk-Inv-loop walk-μ-loop
-walk-after-try-requires t c κs = let u = c .before .before .before .before .before .loop2 .inv .0 in (step-ready u, (u .worth, (u .ahead, c .before .before .before .if1 .taken)))
+walk-after-try-requires t c κs = let u = c .before .before .before .before .before .before .loop2 .inv .0 in (step-ready u, (c .before .before .attempt .ensures .1, (u .ahead, c .before .before .before .before .if1 .taken)))
 
 walk-loop2-less : (t : ℕ) → walk-lts.Need-loop2-less (walk-claims t) (walk-at t) walk.Post walk-Inv-loop2 walk-μ-loop2 walk-Inv-loop walk-μ-loop
-walk-loop2-less t c = let l = c .before .before .before .before .if1 .taken in let a = c .after-try .ensures .0 .after (omega arith) in omega arith
+walk-loop2-less t c = let l = c .before .before .before .before .before .if1 .taken in let a = c .after-try .ensures .0 .after (omega arith) in omega arith
 
 walk-loop2-again : (t : ℕ) → walk-lts.Need-loop2-again (walk-claims t) (walk-at t) walk.Post walk-Inv-loop2 walk-μ-loop2 walk-Inv-loop walk-μ-loop
 walk-loop2-again t c =
     ⊎-elim
     (λ w. (
-      on (c .before .before .before .before .before .before .loop2 .inv .0) _ _ _ _ _ (c .before .match .y) (set-others (c .before .before .before .before .before .before .loop2 .inv .0) (c .before .before .attempt .result .thread) (c .before .match .y) (ap (λ (z : Machine). z .threads) (w .12))) (c .before .before .before .before .if1 .taken) (goes-on (c .before .before .before .before .before .before .loop2 .inv .0) (c .before .before .before .before .if1 .taken) _ (c .before .before .before .step-at .ensures) (c .before .before .attempt .result) (c .before .before .attempt .ensures) (w .1 .given .1) _ (w .2 .ensures) _ refl (w .6 .ran) (w .6 .area) (⊎-elim (λ v. is-over _ _ _ _ _ _ (w .5 .ensures) _ _ (v .1 .given .1) (v .5) _ _ (v .3)) (λ v. told-as (v .5 .ensures .0) (v .12) (v .10)) (w .6 .came)) _ (w .8 .given .1)) (w .10) (w .13) (c .after-try .ensures),
-      trusted-to (trusted-on (c .before .before .before .before .before .before .loop2 .inv .1) (⊎-elim (λ v. trusted-as (c .before .before .before .before .before .before .loop2 .inv .1 .holds) refl (v .4)) (λ v. trusted-as (v .5 .ensures .1) (v .5 .kept .1 .1 .1 .1 .1 .1 .1 .0) (v .11)) (w .6 .came))) (w .11),
+      on (c .before .before .before .before .before .before .before .loop2 .inv .0) _ (c .before .before .before .attempt .ensures .1) _ _ _ _ _ (c .before .match .y) (set-others (c .before .before .before .before .before .before .before .loop2 .inv .0) (c .before .before .before .attempt .result .thread) (c .before .match .y) (ap (λ (z : Machine). z .threads) (w .12))) (c .before .before .before .before .before .if1 .taken) (goes-on (c .before .before .before .before .before .before .before .loop2 .inv .0) (c .before .before .before .before .before .if1 .taken) _ (c .before .before .before .before .step-at .ensures) (moved (c .before .before .before .attempt .result)) (c .before .before .before .attempt .ensures .0) (w .1 .given .1) _ (w .2 .ensures) _ refl (w .6 .ran) (w .6 .area) (⊎-elim (λ v. is-over _ _ _ _ _ _ (w .5 .ensures) _ _ (v .1 .given .1) (v .5) _ _ (v .3)) (λ v. told-as (v .5 .ensures .0) (v .12) (v .10)) (w .6 .came)) _ (w .8 .given .1)) (w .10) (w .13) (c .after-try .ensures),
+      trusted-to (trusted-on (c .before .before .before .before .before .before .before .loop2 .inv .1) (⊎-elim (λ v. trusted-as (c .before .before .before .before .before .before .before .loop2 .inv .1 .holds) refl (v .4)) (λ v. trusted-as (v .5 .ensures .1) (v .5 .kept .1 .1 .1 .1 .1 .1 .1 .0) (v .11)) (w .6 .came))) (w .11),
     ))
     (λ w. (
-      on (c .before .before .before .before .before .before .loop2 .inv .0) _ _ _ _ _ (c .before .match .y) (same-others (c .before .before .before .before .before .before .loop2 .inv .0) (c .before .match .y) (w .4)) (c .before .before .before .before .if1 .taken) (is-rejected (c .before .before .before .before .before .before .loop2 .inv .0) (c .before .before .before .before .if1 .taken) _ (c .before .before .before .step-at .ensures) (c .before .before .attempt .result) (c .before .before .attempt .ensures) _ (w .1 .given .1), refl) (w .2) (w .5) (c .after-try .ensures),
-      trusted-to (c .before .before .before .before .before .before .loop2 .inv .1) (w .3),
+      on (c .before .before .before .before .before .before .before .loop2 .inv .0) _ (c .before .before .before .attempt .ensures .1) _ _ _ _ _ (c .before .match .y) (same-others (c .before .before .before .before .before .before .before .loop2 .inv .0) (c .before .match .y) (w .4)) (c .before .before .before .before .before .if1 .taken) (is-rejected (c .before .before .before .before .before .before .before .loop2 .inv .0) (c .before .before .before .before .before .if1 .taken) _ (c .before .before .before .before .step-at .ensures) (moved (c .before .before .before .attempt .result)) (c .before .before .before .attempt .ensures .0) _ (w .1 .given .1), refl) (w .2) (w .5) (c .after-try .ensures),
+      trusted-to (c .before .before .before .before .before .before .before .loop2 .inv .1) (w .3),
     ))
     (c .before .match .came)
 
