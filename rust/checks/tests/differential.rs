@@ -109,7 +109,9 @@ fn worst_files() {
 /// Certifications that have to look at every run.
 #[test]
 fn worst_certifications() {
-    let unkept = (1..=8).map(worst::unkept).chain([worst::compared()]);
+    let added = (1..=8).map(|loads| worst::unkept(loads, 0));
+    let others = [worst::unkept(7, 1), worst::unkept(7, 2), worst::compared()];
+    let unkept = added.chain(others);
     for (number, (program, machine)) in unkept.enumerate() {
         let (program, machine) = (program_bytes(&program).to_vec(), machine_bytes(&machine).to_vec());
         let call = Call::Certify { program, machine, thread: 1 };

@@ -12,11 +12,11 @@ pub fn files() -> Vec<Vector> {
     include_str!("../../../programs/worst/vectors.txt").lines().map(vector).collect()
 }
 
-/// `loads` loads of location 0, their values added up and stored: a promise that no run keeps.
-/// Certification has to look at every run.
-pub fn unkept(loads: u8) -> (Program, Machine) {
+/// `loads` loads of location 0, their values combined by computes of the mode (0 added up, 1 subtracted,
+/// 2 by exclusive or) and stored: a promise that no run keeps. Certification has to look at every run.
+pub fn unkept(loads: u8, mode: u8) -> (Program, Machine) {
     let mut code: Vec<Instruction> = (0..loads).map(load).collect();
-    code.extend((1..loads).map(|register| [COMPUTE, 0, 0, 1, 0, 1, register]));
+    code.extend((1..loads).map(|register| [COMPUTE, mode, 0, 1, 0, 1, register]));
     code.push([STORE, 0, 0, 0, 1, 1, 0]);
     odd_promise(&code)
 }
