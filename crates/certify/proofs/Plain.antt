@@ -3,8 +3,9 @@
 use mathlib.Core.Path.{_≡_, refl, sym, ap, subst, _∙_}
 use mathlib.Core.Logic.{_⊎_, inl, inr, ⊎-elim}
 use mathlib.Core.Bool.{true, _||_, cond}
+use mathlib.Core.List.{List}
 use mathlib.Core.Option.{none, some, Option·some-injective}
-use Prim.Native.Nat.{ℕ, _≤_, _<_}
+use Prim.Native.Nat.{ℕ, _≤_}
 use native.Mathlib.Nat.{le-refl}
 use native.Mathlib.Omega.{arith}
 use lib.Dec.{T, eqb, eqb→eq}
@@ -15,11 +16,11 @@ use Rattle.source.proofs.Tests.{or-cases}
 use Rattle.machine.specs.State.{freshMemory}
 use Rattle.machine.specs.Rules.{next, computeDone, branchDone, fenceDone, execute}
 use Rattle.machine.proofs.Effects.{Effect, computed, loaded, stored, branched, fenced, effect, moves}
-use Rattle.certify.specs.Below.{Code, Operand, ComputeMode, LoadMode, StoreMode, FenceMode, Instr, Compute, Load, Store, Branch, Fence, Message, Memory, Thread}
+use Rattle.certify.specs.Below.{Code, Operand, ComputeMode, FenceMode, Instr, Compute, Load, Store, Branch, Fence, Message, Memory, Thread}
 use Rattle.certify.specs.Certify.{messageOf}
 use Rattle.certify.specs.Answers.{Ready}
 use Rattle.certify.specs.Runs.{done, by, own}
-use Rattle.certify.specs.Straight.{plainly, Leads, here, on, Halts}
+use Rattle.certify.specs.Straight.{Step, plainly, Leads, here, on, Halts, Walked, start, further}
 use Rattle.certify.specs.Sought.{Meets}
 use Rattle.certify.proofs.Executes.{executes}
 use Rattle.certify.proofs.Trying.{ready-after}
@@ -91,12 +92,16 @@ leads-ready here o = o
 leads-ready {m = m} {s} (on x s' g e rest) o = leads-ready rest (ready-after o (plain-effect x s s' e m))
 
 -- one more
-pub leads-on : {c : Code} {s y y' : Thread} (x : Instr) → Leads c s y → instrAt c (y .position) ≡ some x → plainly x y ≡ some y' → Leads c s y' × (y .position < y' .position)
-leads-on {c} {s} {y} {y'} x l g e = (go l, moves (plain-effect x y y' e freshMemory))
+leads-on : {c : Code} {s y y' : Thread} (x : Instr) → Leads c s y → instrAt c (y .position) ≡ some x → plainly x y ≡ some y' → Leads c s y'
+leads-on {c} {s} {y} {y'} x l g e = go l
   where
     go : {s' : Thread} → Leads c s' y → Leads c s' y'
     go here = on x y' g e here
     go (on x' s' g' e' rest) = on x' s' g' e' (go rest)
+
+pub walked-leads : {c : Code} {s y : Thread} {steps : List Step} {j : ℕ} → Walked c s steps j y → Leads c s y
+walked-leads start = here
+walked-leads (further x w g p i t) = leads-on x (walked-leads w) g p
 
 -- ---- what the code does
 module _ (x : Instr) (y y' : Thread) where
@@ -112,23 +117,10 @@ module _ (x : Instr) (y y' : Thread) where
   unfolding plainly
   plain-fence is e = rw (is, e)
 
-module _ (x : Instr) (s : Thread) where
-  pub halts-load : {k : LoadMode} {r : ℕ} {a b : Operand} → x ≡ Load k r a b → plainly x s ≡ none
-  unfolding plainly
-  halts-load is = rw is
-
-  pub halts-store : {k : StoreMode} {a d : Operand} → x ≡ Store k a d → plainly x s ≡ none
-  unfolding plainly
-  halts-store is = rw is
-
 -- ---- where they end
 -- at the thread's end
 pub halts-end : (c : Code) (s : Thread) → c .count ≤ s .position → Halts c s
 halts-end c s h x g = let l = there c (s .position) x g .0 in absurd (omega arith)
-
--- at the instruction x
-pub halts-at : (c : Code) (s : Thread) (x : Instr) → instrAt c (s .position) ≡ some x → plainly x s ≡ none → Halts c s
-halts-at c s x g e x' g' = subst (λ (y : Instr). plainly y s ≡ none) (Option·some-injective x x' (sym g ∙ g')) e
 
 -- the op byte of a load or store
 pub op-halts : (i : Instruction) (s : Thread) (n : ℕ) → (n ≡ 1) ⊎ (n ≡ 2)

@@ -25,7 +25,7 @@ use Rattle.certify.specs.Answers.{Trying}
 use Rattle.certify.specs.Runs.{done, by, own}
 use Rattle.certify.specs.Asks.{Unmet, Seeks, Asks, FillsSame, Repeats}
 use Rattle.certify.specs.Sought.{Met, Sought, Tried, Reached, Fills, Better, same, Twice, Emptied, Meets, Owns, Found, Unkept, Filled, Missed, Through}
-use Rattle.certify.specs.Straight.{Leads, Halts, Ran}
+use Rattle.certify.specs.Straight.{Leads, Ran}
 use Rattle.certify.specs.Under.{Rests}
 use Rattle.certify.proofs.Numbers.{narrows, better-on, better-as, least-passes, zero-sought, emptied-better, emptied-now}
 use Rattle.certify.proofs.Plain.{leads-there, leads-back}
@@ -167,12 +167,12 @@ module _ (c : Code) (i : ℕ) (m : Memory) (s y : Thread) (o : Ran c s y) (q : S
   straight-ended r f over = record { better = straight-better (f .better); barren = λ s' rests j u w. over j u }
 
   pub straight-found : (r : Reached) → Found (q .from) (q .met) (λ v j. Meets c i m v (q .hole) j) y r → (k : Cares)
-      → ((s' v : Thread) → Rests (k .of) s s' → Leads c s v → Halts c v → (v' : Thread) × (Leads c s' v' × Rests (r .cares .of) v v'))
+      → ((s' : Thread) → Rests (k .of) s s' → (y' : Thread) × (Leads c s' y' × Rests (r .cares .of) y y'))
       → Found (q .from) (q .met) (λ v j. Meets c i m v (q .hole) j) s (record { met = r .met; cares = k })
   straight-found r f k back =
       record {
         better = straight-better (f .better);
-        barren = λ s' rests j u w. let z = back s' y rests (o .leads) (o .halts) in f .barren (z .0) (z .1 .1) j u (leads-back (z .1 .0) i (q .hole) j w);
+        barren = λ s' rests j u w. let z = back s' rests in f .barren (z .0) (z .1 .1) j u (leads-back (z .1 .0) i (q .hole) j w);
       }
 
 -- ---- each instruction moves the position on, so the search ends

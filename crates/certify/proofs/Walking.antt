@@ -1,11 +1,11 @@
--- Going through instructions that have one way to go on with the position and the registers alone, and the way back.
+-- Going through instructions that have one way to go on by position, registers and views, and the way back.
 -- Assumes nothing.
 use mathlib.Core.Path.{_≡_, refl, sym, ap, subst, _∙_}
 use mathlib.Core.Logic.{_⊎_, inl, inr}
 use mathlib.Core.Bool.{Bool, true, false, _||_}
 use mathlib.Core.List.{List}
 use mathlib.Core.Option.{some, Option·some-injective}
-use Prim.Native.Nat.{ℕ, suc, _+_, _-_, _%_, _≤_, _<_}
+use Prim.Native.Nat.{ℕ, suc, max, _+_, _-_, _%_, _≤_, _<_}
 use native.Mathlib.Omega.{arith}
 use lib.Dec.{eqb}
 use lib.ListN.{length, length-set, getD, set, List·getD-eq-default}
@@ -15,13 +15,13 @@ use Rattle.source.specs.declared.Instruction.{Instruction}
 use Rattle.source.specs.Program.{operand, computeMode, fenceMode, decode, instructionAt, instrAt}
 use Rattle.source.proofs.Counts.{there}
 use Rattle.source.proofs.Formed.{CodeOk}
-use Rattle.machine.specs.State.{freshRegister}
-use Rattle.machine.specs.Rules.{valueOf, viewOf, combine, computeDone, branchBy, branchDone, fenceDone}
+use Rattle.machine.specs.State.{freshRegister, raiseCap}
+use Rattle.machine.specs.Rules.{valueOf, viewOf, combine, computeDone, branchBy, branchDone, fenceViews, fenceDone}
 use Rattle.cares.specs.Cares.{Agrees, careOf, Agreeing, AgreeingBut, firstOf, secondOf, noStep, Tells}
-use Rattle.certify.specs.Below.{Code, OfRegister, Instr, Compute, Branch, Fence, Register, Thread}
-use Rattle.certify.specs.Straight.{Step, resultOf, stepOver, stepAt, plainly, Halts, Walked, start, further, Gone}
-use Rattle.certify.proofs.Plain.{no-thread, plain-compute, plain-branch, plain-fence, op-halts}
-use Rattle.certify.proofs.Backwards.{Backwards, back-halted, back-compute, back-branch, back-fence}
+use Rattle.certify.specs.Below.{Code, OfRegister, Instr, Compute, Branch, Fence, Register, Views, Thread}
+use Rattle.certify.specs.Straight.{Step, resultOf, stepOver, standing, stepAt, plainly, Halts, Ran, Walked, start, further}
+use Rattle.certify.proofs.Plain.{no-thread, walked-leads, plain-compute, plain-branch, plain-fence, op-halts}
+use Rattle.certify.proofs.Backwards.{Backwards, back-none, back-compute, back-branch, back-fence}
 
 -- ---- operands as their two bytes
 module _ (s : Thread) (k n : ℕ) where
@@ -82,20 +82,13 @@ module _ (c : Code) (n : ℕ) (l : n < c .count) where
   branch-lands o e = o .lands n ((instructionAt c n) .m) (firstOf (instructionAt c n)) (secondOf (instructionAt c n)) (instr-is ∙ ap some (op-branch (instructionAt c n) e))
 
 -- ---- on the way
--- where the thread is that the position and the registers stand for
-pub record Going (c : Code) (s : Thread) (steps : List Step) (j n : ℕ) (registers : List Register) : Type 0 where
-  pub at : Thread
-  pub walked : Walked c s steps j at
-  pub there-is : at .position ≡ n
-  pub hold : at .registers ≡ registers
-
--- the same for every thread that starts at position n₀ with registers₀
-pub record On (c : Code) (registers₀ : List Register) (n₀ : ℕ) (registers : List Register) (n : ℕ) (steps : List Step) (j : ℕ) : Type 0 where
+-- by j instructions s has come to position n, with these registers and views
+pub record On (c : Code) (s : Thread) (registers : List Register) (n : ℕ) (views : Views) (steps : List Step) (j : ℕ) : Type 0 where
   pub far : j ≤ n
   pub few : j ≤ 16
   pub steps-long : length steps ≡ 16
   pub registers-long : length registers ≡ 8
-  pub going : (s : Thread) → s .position ≡ n₀ → s .registers ≡ registers₀ → Going c s steps j n registers
+  pub walked : Walked c s steps j (standing s registers n views)
 
 -- a step that is put in later does not count
 kept-steps : {c : Code} {s : Thread} {steps : List Step} (j : ℕ) (e : Step) {k : ℕ} {y : Thread} → k ≤ j → Walked c s steps k y → Walked c s (set steps j e) k y
@@ -105,27 +98,19 @@ kept-steps {c} {s} {steps} j e l (further {j = k} {y = y} x w g p i t) =
     further x (kept-steps j e (omega arith) w) g p (ap (λ (v : Step). v .instruction) same ∙ i) (subst (λ (v : Step). Tells v y) (sym same) t)
 
 -- one more instruction
-module _ {c : Code} {registers₀ registers : List Register} {n₀ n j : ℕ} {steps : List Step} (o : On c registers₀ n₀ registers n steps j) (l : n < c .count) (short : c .count ≤ 16) (e : Step)
-    (is : e .instruction ≡ instructionAt c n) (told : (y : Thread) → y .registers ≡ registers → Tells e y) (n' : ℕ) (further-on : n < n') (registers' : List Register) (long : length registers' ≡ 8)
-    (moved : (y : Thread) → y .position ≡ n → y .registers ≡ registers → (y' : Thread) × ((plainly (decode (e .instruction)) y ≡ some y') × ((y' .position ≡ n') × (y' .registers ≡ registers')))) where
+module _ {c : Code} {s : Thread} {registers : List Register} {n : ℕ} {views : Views} {steps : List Step} {j : ℕ} (o : On c s registers n views steps j) (l : n < c .count) (short : c .count ≤ 16) (e : Step)
+    (is : e .instruction ≡ instructionAt c n) (told : Tells e (standing s registers n views)) (registers' : List Register) (n' : ℕ) (views' : Views) (further-on : n < n') (long : length registers' ≡ 8)
+    (moved : plainly (decode (e .instruction)) (standing s registers n views) ≡ some (standing s registers' n' views')) where
   instr-there : instrAt c n ≡ some (decode (e .instruction))
   instr-there = instr-is c n l ∙ ap (λ (i : Instruction). some (decode i)) (sym is)
 
-  one-more : {s : Thread} → Going c s steps j n registers → Going c s (set steps j e) (suc j) n' registers'
-  one-more {s} g =
-      let y = g .at in
-      let w = moved y (g .there-is) (g .hold) in
-      let q : n ≡ y .position = sym (g .there-is) in
+  one-more : Walked c s (set steps j e) (suc j) (standing s registers' n' views')
+  one-more =
       let here : stepAt (set steps j e) j ≡ e = (let f = o .far in let h = o .steps-long in getD-set-same steps j e noStep (omega arith)) in
-      record {
-        at = w .0;
-        walked = further (decode (e .instruction)) (kept-steps j e (omega arith) (g .walked)) (ap (instrAt c) (g .there-is) ∙ instr-there) (w .1 .0) (ap (λ (v : Step). v .instruction) here ∙ is ∙ ap (instructionAt c) q)
-            (subst (λ (v : Step). Tells v y) (sym here) (told y (g .hold)));
-        there-is = w .1 .1 .0;
-        hold = w .1 .1 .1;
-      }
+      further (decode (e .instruction)) (kept-steps j e (omega arith) (o .walked)) instr-there moved (ap (λ (v : Step). v .instruction) here ∙ is)
+      (subst (λ (v : Step). Tells v (standing s registers n views)) (sym here) told)
 
-  on-more : On c registers₀ n₀ registers' n' (set steps j e) (j + 1)
+  on-more : On c s registers' n' views' (set steps j e) (j + 1)
   on-more =
       let f = o .far in
       let h : suc j ≡ j + 1 = omega arith in
@@ -134,37 +119,13 @@ module _ {c : Code} {registers₀ registers : List Register} {n₀ n j : ℕ} {s
         few = omega arith;
         steps-long = length-set steps j e ∙ o .steps-long;
         registers-long = long;
-        going = λ s p q. subst (λ (k : ℕ). Going c s (set steps j e) k n' registers') h (one-more (o .going s p q));
+        walked = subst (λ (k : ℕ). Walked c s (set steps j e) k (standing s registers' n' views')) h one-more;
       }
 
--- ---- what an instruction makes of position and registers
--- what is found for the operands of i is what they are in y
-pub record Operands (i : Instruction) (a b : Register) (y : Thread) : Type 0 where
-  pub first : (a .value ≡ valueOf y (firstOf i)) × (a .view ≡ viewOf y (firstOf i))
-  pub second : (b .value ≡ valueOf y (secondOf i)) × (b .view ≡ viewOf y (secondOf i))
-
-module _ (i : Instruction) (a b : Register) {n : ℕ} {registers : List Register} (y : Thread) (p : y .position ≡ n) (q : y .registers ≡ registers) where
-  pub moved-compute : Operands i a b y → i .op ≡ 0 → {v : Register} → v ≡ resultOf (i .m) a b
-      → (y' : Thread) × ((plainly (decode i) y ≡ some y') × ((y' .position ≡ n + 1) × (y' .registers ≡ set registers (i .r) v)))
-  moved-compute f e h =
-      let y' = computeDone (computeMode (i .m)) (i .r) (firstOf i) (secondOf i) y in
-      (y', (plain-compute (decode i) y y' (op-compute i e) refl, (ap (λ (m : ℕ). m + 1) p, rw (h, f .first .0, f .first .1, f .second .0, f .second .1, q))))
-
-  pub moved-branch : Operands i a b y → i .op ≡ 3 → {m : ℕ} → m ≡ branchBy (eqb (a .value) (b .value)) (i .m)
-      → (y' : Thread) × ((plainly (decode i) y ≡ some y') × ((y' .position ≡ n + m) × (y' .registers ≡ registers)))
-  moved-branch f e h =
-      let y' = branchDone (i .m) (firstOf i) (secondOf i) y in
-      (y', (plain-branch (decode i) y y' (op-branch i e) refl, (rw (h, f .first .0, f .second .0, p), q)))
-
-  pub moved-fence : decode i ≡ Fence (fenceMode (i .m)) → (y' : Thread) × ((plainly (decode i) y ≡ some y') × ((y' .position ≡ n + 1) × (y' .registers ≡ registers)))
-  moved-fence e =
-      let y' = fenceDone (fenceMode (i .m)) y in
-      (y', (plain-fence (decode i) y y' e refl, (ap (λ (m : ℕ). m + 1) p, q)))
-
 -- ---- one turn of the loop: the instruction at n, its operands a and b, and the step that tells of it
-pub record Turn (c : Code) (registers₀ : List Register) (n₀ : ℕ) (registers : List Register) (n : ℕ) (steps : List Step) (j : ℕ) (a b : Register) (step : Step) : Type 0 where
+pub record Turn (c : Code) (s : Thread) (registers : List Register) (n : ℕ) (views : Views) (steps : List Step) (j : ℕ) (a b : Register) (step : Step) : Type 0 where
   pub tells : step ≡ stepOver (instructionAt c n) a b
-  pub on : On c registers₀ n₀ registers n steps j
+  pub on : On c s registers n views steps j
   pub inside : n < c .count
   pub short : c .count ≤ 16
   pub first-found : (y : Thread) → length (y .registers) ≡ 8 → getD registers ((instructionAt c n) .n1 % 8) freshRegister ≡ getD (y .registers) ((instructionAt c n) .n1 % 8) freshRegister
@@ -172,67 +133,69 @@ pub record Turn (c : Code) (registers₀ : List Register) (n₀ : ℕ) (register
   pub second-found : (y : Thread) → length (y .registers) ≡ 8 → getD registers ((instructionAt c n) .n2 % 8) freshRegister ≡ getD (y .registers) ((instructionAt c n) .n2 % 8) freshRegister
       → (b .value ≡ valueOf y (secondOf (instructionAt c n))) × (b .view ≡ viewOf y (secondOf (instructionAt c n)))
 
-module _ {c : Code} {registers₀ : List Register} {n₀ : ℕ} {registers : List Register} {n : ℕ} {steps : List Step} {j : ℕ} {a b : Register} {step : Step} (u : Turn c registers₀ n₀ registers n steps j a b step) where
+module _ {c : Code} {s : Thread} {registers : List Register} {n : ℕ} {views : Views} {steps : List Step} {j : ℕ} {a b : Register} {step : Step} (u : Turn c s registers n views steps j a b step) where
   abbrev here : Instruction
   here = instructionAt c n
 
-  found : (y : Thread) → y .registers ≡ registers → Operands here a b y
-  found y q =
-      let h = ap length q ∙ u .on .registers-long in
-      record {
-        first = u .first-found y h (ap (λ (l : List Register). getD l (here .n1 % 8) freshRegister) (sym q));
-        second = u .second-found y h (ap (λ (l : List Register). getD l (here .n2 % 8) freshRegister) (sym q));
-      }
+  abbrev now : Thread
+  now = standing s registers n views
 
-  told : (y : Thread) → y .registers ≡ registers → Tells (stepOver here a b) y
-  told y q = let f = found y q in record { first-held = f .first .0; second-held = f .second .0 }
+  first : (a .value ≡ valueOf now (firstOf here)) × (a .view ≡ viewOf now (firstOf here))
+  first = u .first-found now (u .on .registers-long) refl
 
-  turned : (n' : ℕ) → n < n' → (registers' : List Register) → length registers' ≡ 8
-      → ((y : Thread) → y .position ≡ n → y .registers ≡ registers → (y' : Thread) × ((plainly (decode here) y ≡ some y') × ((y' .position ≡ n') × (y' .registers ≡ registers'))))
-      → On c registers₀ n₀ registers' n' (set steps j step) (j + 1)
-  turned n' l registers' long moved =
-      subst (λ (e : Step). On c registers₀ n₀ registers' n' (set steps j e) (j + 1)) (sym (u .tells))
-      (on-more (u .on) (u .inside) (u .short) (stepOver here a b) refl told n' l registers' long moved)
+  second : (b .value ≡ valueOf now (secondOf here)) × (b .view ≡ viewOf now (secondOf here))
+  second = u .second-found now (u .on .registers-long) refl
 
-  pub turn-compute : here .op ≡ 0 → (v : Register) → v ≡ resultOf (here .m) a b → On c registers₀ n₀ (set registers (here .r) v) (n + 1) (set steps j step) (j + 1)
+  turned : (registers' : List Register) (n' : ℕ) (views' : Views) → n < n' → length registers' ≡ 8 → plainly (decode here) now ≡ some (standing s registers' n' views')
+      → On c s registers' n' views' (set steps j step) (j + 1)
+  turned registers' n' views' l long moved =
+      subst (λ (e : Step). On c s registers' n' views' (set steps j e) (j + 1)) (sym (u .tells))
+      (on-more (u .on) (u .inside) (u .short) (stepOver here a b) refl (record { first-held = first .0; second-held = second .0 }) registers' n' views' l long moved)
+
+  pub turn-compute : here .op ≡ 0 → (v : Register) → v ≡ resultOf (here .m) a b → On c s (set registers (here .r) v) (n + 1) views (set steps j step) (j + 1)
   turn-compute e v h =
-      turned (n + 1) (omega arith) (set registers (here .r) v) (length-set registers (here .r) v ∙ u .on .registers-long) (λ y p q. moved-compute here a b y p q (found y q) e h)
+      turned (set registers (here .r) v) (n + 1) views (omega arith) (length-set registers (here .r) v ∙ u .on .registers-long)
+      (plain-compute (decode here) now (standing s (set registers (here .r) v) (n + 1) views) (op-compute here e) (rw (h, first .0, first .1, second .0, second .1) refl))
 
   -- a register past the eight is not written
-  pub turn-past : here .op ≡ 0 → 8 ≤ here .r → On c registers₀ n₀ registers (n + 1) (set steps j step) (j + 1)
+  pub turn-past : here .op ≡ 0 → 8 ≤ here .r → On c s registers (n + 1) views (set steps j step) (j + 1)
   turn-past e l =
       let v = resultOf (here .m) a b in
       let h = u .on .registers-long in
-      subst (λ (g : List Register). On c registers₀ n₀ g (n + 1) (set steps j step) (j + 1)) (set-out registers (here .r) v (omega arith)) (turn-compute e v refl)
+      subst (λ (g : List Register). On c s g (n + 1) views (set steps j step) (j + 1)) (set-out registers (here .r) v (omega arith)) (turn-compute e v refl)
 
-  pub turn-branch : here .op ≡ 3 → (m : ℕ) → 0 < m → m ≡ branchBy (eqb (a .value) (b .value)) (here .m) → On c registers₀ n₀ registers (n + m) (set steps j step) (j + 1)
-  turn-branch e m z h = turned (n + m) (omega arith) registers (u .on .registers-long) (λ y p q. moved-branch here a b y p q (found y q) e h)
+  pub turn-branch : here .op ≡ 3 → (m : ℕ) → 0 < m → m ≡ branchBy (eqb (a .value) (b .value)) (here .m) → (w : Views) → w ≡ raiseCap (max (a .view) (b .view)) views
+      → On c s registers (n + m) w (set steps j step) (j + 1)
+  turn-branch e m z h w q =
+      turned registers (n + m) w (omega arith) (u .on .registers-long)
+      (plain-branch (decode here) now (standing s registers (n + m) w) (op-branch here e) (rw (q, h, first .0, first .1, second .0, second .1) refl))
 
-  pub turn-fence : decode here ≡ Fence (fenceMode (here .m)) → On c registers₀ n₀ registers (n + 1) (set steps j step) (j + 1)
-  turn-fence e = turned (n + 1) (omega arith) registers (u .on .registers-long) (λ y p q. moved-fence here a b y p q e)
+  pub turn-fence : decode here ≡ Fence (fenceMode (here .m)) → (w : Views) → w ≡ fenceViews (fenceMode (here .m)) views → On c s registers (n + 1) w (set steps j step) (j + 1)
+  turn-fence e w q = turned registers (n + 1) w (omega arith) (u .on .registers-long) (plain-fence (decode here) now (standing s registers (n + 1) w) e (rw q refl))
 
 -- ---- the ends of the way
-pub on-start : (c : Code) (registers : List Register) (n : ℕ) (steps : List Step) → length steps ≡ 16 → length registers ≡ 8 → On c registers n registers n steps 0
-on-start c registers n steps l h =
-    record { far = omega arith; few = omega arith; steps-long = l; registers-long = h; going = λ s p q. record { at = s; walked = start; there-is = p; hold = q } }
+pub on-start : (c : Code) (s : Thread) (steps : List Step) → length steps ≡ 16 → length (s .registers) ≡ 8 → On c s (s .registers) (s .position) (s .views) steps 0
+on-start c s steps l h = record { far = omega arith; few = omega arith; steps-long = l; registers-long = h; walked = start }
 
-pub on-gone : {c : Code} {s : Thread} {registers : List Register} {n : ℕ} {steps : List Step} {j : ℕ} → On c (s .registers) (s .position) registers n steps j
-    → ((y : Thread) → y .position ≡ n → Halts c y) → Gone c s steps j
-on-gone {s = s} o halted = let g = o .going s refl refl in record { at = g .at; walked = g .walked; halts = halted (g .at) (g .there-is); few = o .few }
+pub on-gone : {c : Code} {s : Thread} {registers : List Register} {n : ℕ} {views : Views} {steps : List Step} {j : ℕ} → On c s registers n views steps j → (y : Thread) → y ≡ standing s registers n views
+    → Halts c (standing s registers n views) → Ran c s y × (Walked c s steps j y × (j ≤ 16))
+on-gone {c} {s} {steps = steps} {j = j} o y is halted =
+    let w = subst (Walked c s steps j) (sym is) (o .walked) in
+    (record { leads = walked-leads w; halts = subst (Halts c) (sym is) halted }, (w, o .few))
 
 -- ---- the way back
--- one step back: the thread before the last of the steps, and the cares there
-pub record Back (c : Code) (s : Thread) (steps : List Step) (j : ℕ) (k cares : List ℕ) : Type 0 where
+-- one step back from z: the thread before the last of the steps, and the cares there
+pub record Back (c : Code) (s z : Thread) (steps : List Step) (j : ℕ) (k cares : List ℕ) : Type 0 where
   pub from : Thread
   pub came : Walked c s steps j from
-  pub backwards : Backwards c from k cares
+  pub backwards : Backwards c from z k cares
 
-module _ (c : Code) (s : Thread) (steps : List Step) (j : ℕ) (k q r : List ℕ) where
-  back-step : ((y y' : Thread) → plainly (decode ((stepAt steps j) .instruction)) y ≡ some y' → Tells (stepAt steps j) y → instrAt c (y .position) ≡ some (decode ((stepAt steps j) .instruction)) → Backwards c y' k q → Backwards c y k r)
-      → Back c s steps (suc j) k q → Back c s steps j k r
+module _ (c : Code) (s z : Thread) (steps : List Step) (j : ℕ) (k q r : List ℕ) where
+  back-step : ((y y' : Thread) → plainly (decode ((stepAt steps j) .instruction)) y ≡ some y' → Tells (stepAt steps j) y → instrAt c (y .position) ≡ some (decode ((stepAt steps j) .instruction)) → Backwards c y' z k q → Backwards c y z k r)
+      → Back c s z steps (suc j) k q → Back c s z steps j k r
   back-step by b = go (b .came) (b .backwards)
     where
-      go : {z : Thread} → Walked c s steps (suc j) z → Backwards c z k q → Back c s steps j k r
+      go : {v : Thread} → Walked c s steps (suc j) v → Backwards c v z k q → Back c s z steps j k r
       go (further {y = y} {y' = y'} x w g p i t) rec =
           let is : x ≡ decode ((stepAt steps j) .instruction) = sym (there c (y .position) x g .1) ∙ ap decode (sym i) in
           record { from = y; came = w; backwards = by y y' (subst (λ (v : Instr). plainly v y ≡ some y') is p) t (g ∙ ap some is) rec }
@@ -241,49 +204,49 @@ module _ (steps : List Step) (n : ℕ) (q r : List ℕ) (l : 0 < n) where
   abbrev last : Step
   last = stepAt steps (n - 1)
 
-  -- for any code and thread
+  -- for any code and threads
   abbrev pub BackOne : Type 0
-  BackOne = (c : Code) (s : Thread) (k : List ℕ) → Back c s steps n k q → Back c s steps (n - 1) k r
+  BackOne = (c : Code) (s z : Thread) (k : List ℕ) → Back c s z steps n k q → Back c s z steps (n - 1) k r
 
-  one-back : ((c : Code) (k : List ℕ) (y y' : Thread) → plainly (decode (last .instruction)) y ≡ some y' → Tells last y → instrAt c (y .position) ≡ some (decode (last .instruction)) → Backwards c y' k q → Backwards c y k r) → BackOne
-  one-back by c s k b =
+  one-back : ((c : Code) (z : Thread) (k : List ℕ) (y y' : Thread) → plainly (decode (last .instruction)) y ≡ some y' → Tells last y → instrAt c (y .position) ≡ some (decode (last .instruction)) → Backwards c y' z k q → Backwards c y z k r) → BackOne
+  one-back by c s z k b =
       let e : n ≡ suc (n - 1) = omega arith in
-      back-step c s steps (n - 1) k q r (by c k) (subst (λ (m : ℕ). Back c s steps m k q) e b)
+      back-step c s z steps (n - 1) k q r (by c z k) (subst (λ (m : ℕ). Back c s z steps m k q) e b)
 
   pub one-compute-back : last .instruction .op ≡ 0
       → ((s s' : Thread) → Tells last s → Agreeing r s s' → AgreeingBut q (last .instruction .r) s s'
       × Agrees (careOf q (last .instruction .r)) (combine (computeMode (last .instruction .m)) (valueOf s (firstOf (last .instruction))) (valueOf s (secondOf (last .instruction)))) (combine (computeMode (last .instruction .m)) (valueOf s' (firstOf (last .instruction))) (valueOf s' (secondOf (last .instruction)))))
       → BackOne
-  one-compute-back e cares = one-back (λ c k y y' p t g rec.
+  one-compute-back e cares = one-back (λ c z k y y' p t g rec.
       let i = last .instruction in
       let is = op-compute i e in
-      let z = computeDone (computeMode (i .m)) (i .r) (firstOf i) (secondOf i) y in
-      back-compute c y k (decode i) g y' q rec r (computeMode (i .m)) (i .r) (firstOf i) (secondOf i) is (Option·some-injective y' z (sym p ∙ plain-compute (decode i) y z is refl)) (λ s'. cares y s' t))
+      let w = computeDone (computeMode (i .m)) (i .r) (firstOf i) (secondOf i) y in
+      back-compute c y z k (decode i) g y' q rec r (computeMode (i .m)) (i .r) (firstOf i) (secondOf i) is (Option·some-injective y' w (sym p ∙ plain-compute (decode i) y w is refl)) (λ s'. cares y s' t))
 
   pub one-branch-back : last .instruction .op ≡ 3
       → ((s s' : Thread) → Tells last s → Agreeing r s s' → Agreeing q s s'
       × (branchBy (eqb (valueOf s (firstOf (last .instruction))) (valueOf s (secondOf (last .instruction)))) (last .instruction .m) ≡ branchBy (eqb (valueOf s' (firstOf (last .instruction))) (valueOf s' (secondOf (last .instruction)))) (last .instruction .m)))
       → BackOne
-  one-branch-back e cares = one-back (λ c k y y' p t g rec.
+  one-branch-back e cares = one-back (λ c z k y y' p t g rec.
       let i = last .instruction in
       let is = op-branch i e in
-      let z = branchDone (i .m) (firstOf i) (secondOf i) y in
-      back-branch c y k (decode i) g y' q rec r (i .m) (firstOf i) (secondOf i) is (Option·some-injective y' z (sym p ∙ plain-branch (decode i) y z is refl)) (λ s'. cares y s' t))
+      let w = branchDone (i .m) (firstOf i) (secondOf i) y in
+      back-branch c y z k (decode i) g y' q rec r (i .m) (firstOf i) (secondOf i) is (Option·some-injective y' w (sym p ∙ plain-branch (decode i) y w is refl)) (λ s'. cares y s' t))
 
   pub one-fence-back : (last .instruction .op ≡ 0 → ⊥) → (last .instruction .op ≡ 3 → ⊥) → r ≡ q → BackOne
-  one-fence-back a d same = one-back (λ c k y y' p t g rec.
+  one-fence-back a d same = one-back (λ c z k y y' p t g rec.
       let i = last .instruction in
       let is = op-plain i y y' p a d in
-      let z = fenceDone (fenceMode (i .m)) y in
-      back-fence c y k (decode i) g y' q rec r (fenceMode (i .m)) is (Option·some-injective y' z (sym p ∙ plain-fence (decode i) y z is refl)) same)
+      let w = fenceDone (fenceMode (i .m)) y in
+      back-fence c y z k (decode i) g y' q rec r (fenceMode (i .m)) is (Option·some-injective y' w (sym p ∙ plain-fence (decode i) y w is refl)) same)
 
 -- where it starts, and where it ends
-pub back-start : (c : Code) (s : Thread) (steps : List Step) (n : ℕ) (k : List ℕ) → Gone c s steps n → Back c s steps n k k
-back-start c s steps n k g = record { from = g .at; came = g .walked; backwards = back-halted c (g .at) k (g .halts) }
+pub back-start : (c : Code) (s z : Thread) (steps : List Step) (n : ℕ) (k : List ℕ) → Walked c s steps n z → Back c s z steps n k k
+back-start c s z steps n k w = record { from = z; came = w; backwards = back-none c z k }
 
-pub back-end : (c : Code) (s : Thread) (steps : List Step) (n : ℕ) (k r : List ℕ) → n ≡ 0 → Back c s steps n k r → Backwards c s k r
-back-end c s steps n k r e b = go e (b .came) (b .backwards)
+pub back-end : (c : Code) (s z : Thread) (steps : List Step) (n : ℕ) (k r : List ℕ) → n ≡ 0 → Back c s z steps n k r → Backwards c s z k r
+back-end c s z steps n k r e b = go e (b .came) (b .backwards)
   where
-    go : {m : ℕ} {y : Thread} → m ≡ 0 → Walked c s steps m y → Backwards c y k r → Backwards c s k r
+    go : {m : ℕ} {y : Thread} → m ≡ 0 → Walked c s steps m y → Backwards c y z k r → Backwards c s z k r
     go e start w = w
     go e (further x w g p i t) rec = absurd (omega arith)

@@ -3,7 +3,7 @@
 use mathlib.Core.Path.{_≡_}
 use mathlib.Core.Option.{Option, none, some}
 use mathlib.Core.List.{List}
-use Prim.Native.Nat.{ℕ, suc, max, _≤_}
+use Prim.Native.Nat.{ℕ, suc, max}
 use lib.Dec.{leb}
 use lib.ListN.{getD}
 use Rattle.source.specs.declared.Instruction.{Instruction}
@@ -11,7 +11,7 @@ use Rattle.source.specs.Program.{computeMode, instructionAt, instrAt}
 use Rattle.machine.specs.Rules.{combine, computeDone, branchDone, fenceDone}
 use Rattle.cares.specs.Cares.{noStep, Tells}
 pub use Rattle.cares.specs.declared.before.Step.{Step}
-use Rattle.certify.specs.Below.{Code, Instr, Compute, Load, Store, Branch, Fence, Register, Thread}
+use Rattle.certify.specs.Below.{Code, Instr, Compute, Load, Store, Branch, Fence, Register, Views, Thread}
 
 -- what such an instruction leaves
 unfoldable pub plainly : Instr → Thread → Option Thread
@@ -43,6 +43,10 @@ resultOf m a b = record { value = combine (computeMode m) (a .value) (b .value);
 abbrev pub stepOver : Instruction → Register → Register → Step
 stepOver i a b = record { instruction = i; first = a .value; second = b .value; earlier = leb (a .view) (b .view) }
 
+-- the thread with other registers and views, at position n
+abbrev pub standing : Thread → List Register → ℕ → Views → Thread
+standing s registers n views = record { position = n; registers = registers; coherence = s .coherence; forward = s .forward; views = views; promises = s .promises }
+
 -- the step number j
 abbrev pub stepAt : List Step → ℕ → Step
 stepAt steps j = getD steps j noStep
@@ -52,10 +56,3 @@ pub data Walked (c : Code) (s : Thread) (steps : List Step) : ℕ → Thread →
   start : Walked c s steps 0 s
   further : {j : ℕ} {y y' : Thread} (x : Instr) → Walked c s steps j y → instrAt c (y .position) ≡ some x → plainly x y ≡ some y'
       → (stepAt steps j) .instruction ≡ instructionAt c (y .position) → Tells (stepAt steps j) y → Walked c s steps (suc j) y'
-
--- as far as they go
-pub record Gone (c : Code) (s : Thread) (steps : List Step) (j : ℕ) : Type 0 where
-  pub at : Thread
-  pub walked : Walked c s steps j at
-  pub halts : Halts c at
-  pub few : j ≤ 16

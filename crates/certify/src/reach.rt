@@ -185,7 +185,8 @@ pub fn search_runs(c: Code, i: u8, m: Memory, s: Thread, q: Sought) -> Reached
     ensures { λ r. ⌜ Found (q .from) (q .met) (λ y k. Meets c i m y (q .hole) k) s r ⌝ }
 {
     let nothing = Cares { of: [0; 8] };
-    let y = straight(c, s);
+    let w = straight(c, s);
+    let y = w.thread;
     if kept(y, q) {
         return Reached {
             met: emptied(q),
@@ -196,7 +197,7 @@ pub fn search_runs(c: Code, i: u8, m: Memory, s: Thread, q: Sought) -> Reached
         let met = q.met;
         return Reached {
             met: met,
-            cares: before_straight(c, s, nothing),
+            cares: before_straight(w, nothing),
         };
     }
     let r = search_at(c, i, m, y, c.instr_at(y.position), q);
@@ -207,7 +208,7 @@ pub fn search_runs(c: Code, i: u8, m: Memory, s: Thread, q: Sought) -> Reached
     let rests = r.cares;
     Reached {
         met: met,
-        cares: before_straight(c, s, rests),
+        cares: before_straight(w, rests),
     }
 }
 

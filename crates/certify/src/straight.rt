@@ -4,70 +4,29 @@ ghost use mathlib.Core.Path.{_≡_};
 ghost use Prim.Native.Nat.{_+_, _%_, _≤_, _<_};
 ghost use lib.Dec.{eqb};
 ghost use lib.ListN.{length, getD};
-ghost use Rattle.source.specs.Program.{operand, computeMode};
+ghost use Rattle.source.specs.Program.{operand, computeMode, fenceMode};
 ghost use Rattle.source.proofs.Formed.{CodeOk};
 ghost use Rattle.machine.specs.State.{freshRegister};
-ghost use Rattle.machine.specs.Rules.{valueOf, viewOf, combine, branchBy};
-ghost use Rattle.certify.specs.Below.{Thread};
+ghost use Rattle.machine.specs.Rules.{valueOf, viewOf, combine, branchBy, fenceViews};
+ghost use Rattle.certify.specs.Below.{Code, Thread};
 ghost use Rattle.certify.specs.Under.{Rests};
-ghost use Rattle.certify.specs.Straight.{Leads, Halts, Ran, resultOf, stepOver, Gone};
+ghost use Rattle.certify.specs.Straight.{Leads, Ran, resultOf, stepOver, standing, Walked};
 use cares::Cares;
 use cares::before::Step;
 use cares::before::before_branch;
 use cares::before::before_compute;
 use machine::Register;
 use machine::Thread;
+use machine::Views;
 use machine::merge::larger;
-use rules::operands::value_of;
-use rules::operands::view_of_both;
-use rules::plain::branch_done;
-use rules::plain::combine;
-use rules::plain::fence_done;
 use source::Code;
-use source::Instr;
 use source::Instruction;
 
-// The instructions that a thread has gone through, in order.
+// Where a thread has come to, and the instructions that it has gone through, in order.
 pub struct Walk {
+    pub thread: Thread,
     pub steps: [Step; 16],
     pub count: usize,
-}
-
-// The thread at its next load or store, or at its end. One that is there already (op 1 or 2) is not copied.
-pub fn straight(c: Code, s: Thread) -> Thread
-    requires { ⌜ CodeOk c ⌝ }
-    ensures { λ r. ⌜ Ran c s r ⌝ }
-{
-    if c.count <= s.position {
-        return s;
-    }
-    let op = c.instruction_at(s.position).op;
-    if (op == 1) | (op == 2) {
-        return s;
-    }
-    let mut y = s;
-    while y.position < c.count {
-        let x = c.instr_at(y.position);
-        match x {
-            Instr::Compute(k, r, a, b) => {
-                let v = combine(k, value_of(y, a), value_of(y, b));
-                y = y.with_register(r, v, view_of_both(y, a, b)).advance(1);
-            }
-            Instr::Branch(n, a, b) => {
-                y = branch_done(n, a, b, y);
-            }
-            Instr::Fence(k) => {
-                y = fence_done(k, y);
-            }
-            Instr::Load(_, _, _, _) => {
-                return y;
-            }
-            Instr::Store(_, _, _) => {
-                return y;
-            }
-        }
-    }
-    y
 }
 
 // What the operand (k, n) holds, and its view. Lent is what register n modulo 8 holds, so that the registers are not copied.
@@ -126,19 +85,47 @@ fn passed(m: u8, x: u8, y: u8) -> u8
     if x == y { m + 1 } else { 1 }
 }
 
-// The computes, branches and fences from here on, with what their operands hold. Of the thread the position and the registers suffice.
-fn walk_from(c: Code, s: Thread) -> Walk
+// What a fence of mode m makes of the views.
+fn fenced(m: u8, w: Views) -> Views
+    ensures { λ r. ⌜ r ≡ fenceViews (fenceMode m) w ⌝ }
+{
+    match m {
+        0 => {
+            let v = larger(w.rOld, w.wOld);
+            w.raise_r_new(v).raise_w_new(v)
+        }
+        1 => w.raise_r_new(w.rOld).raise_w_new(w.rOld),
+        2 => w.raise_w_new(w.wOld),
+        _ => w.raise_r_new(w.cap),
+    }
+}
+
+// The thread with other registers and views, at position n.
+fn standing(mut s: Thread, registers: [Register; 8], n: u8, views: Views) -> Thread
+    ensures { λ r. ⌜ r ≡ standing s registers n views ⌝ }
+{
+    s.registers = registers;
+    s.position = n;
+    s.views = views;
+    s
+}
+
+// The thread at its next load or store, or at its end; and the computes, branches and fences up to there, with what their operands hold. Of
+// the thread they change the position, the registers and the views.
+pub fn straight(c: Code, s: Thread) -> Walk
     requires { ⌜ CodeOk c ⌝ }
-    ensures { λ r. ⌜ Gone c s (r .steps) (r .count) ⌝ }
+    ensures { λ r. ⌜ Ran c s (r .thread) × (Walked c s (r .steps) (r .count) (r .thread) × (r .count ≤ 16)) ⌝ }
 {
     let mut registers = s.registers;
     let mut n = s.position;
+    let mut views = s.views;
     let mut steps = [Step::none(); 16];
     let mut count = 0usize;
     while n < c.count {
         let i = c.instructions[n as usize];
         if (i.op == 1) | (i.op == 2) {
             return Walk {
+                thread: standing(s, registers, n, views),
                 steps: steps,
                 count: count,
             };
@@ -154,22 +141,25 @@ fn walk_from(c: Code, s: Thread) -> Walk
             }
         } else if i.op == 3 {
             n += passed(i.m, a.value, b.value);
+            views = views.raise_cap(larger(a.view, b.view));
         } else {
             n += 1;
+            views = fenced(i.m, views);
         }
     }
     Walk {
+        thread: standing(s, registers, n, views),
         steps: steps,
         count: count,
     }
 }
 
 // What a failure rests on before these instructions, by what it rests on after them.
-pub fn before_straight(c: Code, s: Thread, k: Cares) -> Cares
-    requires { ⌜ CodeOk c ⌝ }
-    ensures { λ r. ⌜ ((s' y : Thread) → Rests (r .of) s s' → Leads c s y → Halts c y → (y' : Thread) × (Leads c s' y' × Rests (k .of) y y')) ⌝ }
+pub fn before_straight(w: Walk, k: Cares) -> Cares
+    requires { ⌜ w .count ≤ 16 ⌝ }
+    ensures { λ r. ⌜ ((c : Code) (s s' : Thread) → Walked c s (w .steps) (w .count) (w .thread) → Rests (r .of) s s'
+        → (y' : Thread) × (Leads c s' y' × Rests (k .of) (w .thread) y')) ⌝ }
 {
-    let w = walk_from(c, s);
     let steps = w.steps;
     let mut left = w.count;
     let mut of = k.of;

@@ -92,7 +92,7 @@ fn settle(c: Code, i: u8, m: Memory, s: Thread) -> Moved
 }
 
 // Thread i executes x, its next instruction, at time t.
-pub fn execute_at(x: Instr, c: Code, i: u8, m: Memory, s: Thread, t: u8) -> Moved
+fn execute_at(x: Instr, c: Code, i: u8, m: Memory, s: Thread, t: u8) -> Moved
     requires { ⌜ Ready c m s × (instrAt c (s .position) ≡ some x) ⌝ }
     ensures { λ r. ⌜ Executes c i m s t r ⌝ }
 {
@@ -125,7 +125,7 @@ fn promised(m: Memory, s: Thread) -> Thread
 }
 
 // Thread i promises location l and value v.
-pub fn promise_step(c: Code, i: u8, m: Memory, s: Thread, l: u8, v: u8) -> Moved
+fn promise_step(c: Code, i: u8, m: Memory, s: Thread, l: u8, v: u8) -> Moved
     requires { ⌜ Ready c m s ⌝ }
     ensures { λ r. ⌜ Promises c i m s l v r ⌝ }
 {

@@ -398,31 +398,31 @@ search-runs-emptied-requires : (t : ℕ) → search-runs-lts.Need-emptied-requir
 search-runs-emptied-requires t c κs = search needs
 
 search-runs-returns : (t : ℕ) → search-runs-lts.Need-returns (search-runs-claims t) (search-runs-at t) search-runs.Post
-search-runs-returns t c = straight-kept _ _ _ _ _ (c .before .before .before .straight .ensures) (c .before .before .before .before .args .q) (c .before .before .kept .ensures .0 (c .before .if1 .taken)) _ (c .emptied .ensures) _
+search-runs-returns t c = straight-kept _ _ _ _ _ (c .before .before .before .before .straight .ensures .0) (c .before .before .before .before .before .args .q) (c .before .before .kept .ensures .0 (c .before .if1 .taken)) _ (c .emptied .ensures) _
 
 search-runs-before-straight-requires : (t : ℕ) → search-runs-lts.Need-before-straight-requires (search-runs-claims t) (search-runs-at t) search-runs.Post
-search-runs-before-straight-requires t c κs = c .before .before .before .before .before .before .before .pre .1 .code-ok
+search-runs-before-straight-requires t c κs = c .before .before .before .before .before .before .before .straight .ensures .1 .1
 
 search-runs-returns-2 : (t : ℕ) → search-runs-lts.Need-returns-2 (search-runs-claims t) (search-runs-at t) search-runs.Post
-search-runs-returns-2 t c = straight-found _ _ _ _ _ (c .before .before .before .before .before .before .before .straight .ensures) (c .before .before .before .before .before .before .before .before .args .q) _ (reach-end _ _ _ _ (c .before .before .before .before .before .before .before .before .args .q) (c .before .before .before .before .before .before .kept .ensures .1 (c .before .before .before .before .before .if1 .left)) (c .before .before .if2 .taken) _) _ (c .before-straight .ensures)
+search-runs-returns-2 t c = straight-found _ _ _ _ _ (c .before .before .before .before .before .before .before .before .straight .ensures .0) (c .before .before .before .before .before .before .before .before .before .args .q) _ (reach-end _ _ _ _ (c .before .before .before .before .before .before .before .before .before .args .q) (c .before .before .before .before .before .before .kept .ensures .1 (c .before .before .before .before .before .if1 .left)) (c .before .before .if2 .taken) _) _ (λ s'. c .before-straight .ensures _ _ s' (c .before .before .before .before .before .before .before .before .straight .ensures .1 .0))
 
 search-runs-instr-at-requires : (t : ℕ) → search-runs-lts.Need-instr-at-requires (search-runs-claims t) (search-runs-at t) search-runs.Post
-search-runs-instr-at-requires t c κs = let h = c .before .before .before .before .before .before .pre .1 .code-ok .short in let l = c .if2 .left in (omega arith, l)
+search-runs-instr-at-requires t c κs = let h = c .before .before .before .before .before .before .before .pre .1 .code-ok .short in let l = c .if2 .left in (omega arith, l)
 
 search-runs-search-at-requires : (t : ℕ) → search-runs-lts.Need-search-at-requires (search-runs-claims t) (search-runs-at t) search-runs.Post
-search-runs-search-at-requires t c κs = let f = leads-further (c .before .before .before .before .before .before .straight .ensures .leads) in (omega (arith, c .before .before .before .before .before .before .before .pre .0), (record { ready = leads-ready (c .before .before .before .before .before .before .straight .ensures .leads) (c .before .before .before .before .before .before .before .pre .1); is-next = c .instr-at .ensures }, record { halting = c .before .before .before .before .before .before .straight .ensures .halts _ (c .instr-at .ensures); outstanding = c .before .before .before .before .before .kept .ensures .1 (c .before .before .before .before .if1 .left) }))
+search-runs-search-at-requires t c κs = let f = leads-further (c .before .before .before .before .before .before .before .straight .ensures .0 .leads) in (omega (arith, c .before .before .before .before .before .before .before .before .pre .0), (record { ready = leads-ready (c .before .before .before .before .before .before .before .straight .ensures .0 .leads) (c .before .before .before .before .before .before .before .before .pre .1); is-next = c .instr-at .ensures }, record { halting = c .before .before .before .before .before .before .before .straight .ensures .0 .halts _ (c .instr-at .ensures); outstanding = c .before .before .before .before .before .kept .ensures .1 (c .before .before .before .before .if1 .left) }))
 
 search-runs-ended-requires : (t : ℕ) → search-runs-lts.Need-ended-requires (search-runs-claims t) (search-runs-at t) search-runs.Post
 search-runs-ended-requires t c κs = search needs
 
 search-runs-returns-3 : (t : ℕ) → search-runs-lts.Need-returns-3 (search-runs-claims t) (search-runs-at t) search-runs.Post
-search-runs-returns-3 t c = straight-ended _ _ _ _ _ (c .before .before .before .before .before .before .before .before .before .before .straight .ensures) (c .before .before .before .before .before .before .before .before .before .before .before .args .q) _ (c .before .before .before .search-at .ensures) (c .before .ended .ensures (c .if3 .taken))
+search-runs-returns-3 t c = straight-ended _ _ _ _ _ (c .before .before .before .before .before .before .before .before .before .before .before .straight .ensures .0) (c .before .before .before .before .before .before .before .before .before .before .before .before .args .q) _ (c .before .before .before .search-at .ensures) (c .before .ended .ensures (c .if3 .taken))
 
 search-runs-before-straight-requires-2 : (t : ℕ) → search-runs-lts.Need-before-straight-requires-2 (search-runs-claims t) (search-runs-at t) search-runs.Post
-search-runs-before-straight-requires-2 t c κs = c .before .before .before .before .before .before .before .before .before .before .before .before .pre .1 .code-ok
+search-runs-before-straight-requires-2 t c κs = c .before .before .before .before .before .before .before .before .before .before .before .before .straight .ensures .1 .1
 
 search-runs-returns-4 : (t : ℕ) → search-runs-lts.Need-returns-4 (search-runs-claims t) (search-runs-at t) search-runs.Post
-search-runs-returns-4 t c = straight-found _ _ _ _ _ (c .before .before .before .before .before .before .before .before .before .before .before .before .straight .ensures) (c .before .before .before .before .before .before .before .before .before .before .before .before .before .args .q) _ (c .before .before .before .before .before .search-at .ensures) _ (c .before-straight2 .ensures)
+search-runs-returns-4 t c = straight-found _ _ _ _ _ (c .before .before .before .before .before .before .before .before .before .before .before .before .before .straight .ensures .0) (c .before .before .before .before .before .before .before .before .before .before .before .before .before .before .args .q) _ (c .before .before .before .before .before .search-at .ensures) _ (λ s'. c .before-straight2 .ensures _ _ s' (c .before .before .before .before .before .before .before .before .before .before .before .before .before .straight .ensures .1 .0))
 
 try-at-hopeless-requires : (t : ℕ) → try-at-lts.Need-hopeless-requires (try-at-claims t) (try-at-at t) try-at.Post
 try-at-hopeless-requires t c κs = let w = c .pre .1 .0 in (w .ready .code-ok .short, (w .ready .room, c .pre .1 .1 .0))

@@ -6,22 +6,19 @@ use native.Mathlib.Omega.{arith}
 use lib.ListN.{length}
 use Rattle.source.proofs.Arrays.{length-mapped}
 use Rattle.certify.specs.Below.{Code, Thread}
-use Rattle.certify.specs.Straight.{Gone}
+use Rattle.certify.specs.Straight.{Walked}
 use Rattle.certify.proofs.Walking.{Back, one-compute-back, one-branch-back, one-fence-back, back-start, back-end}
 use Rattle.certify.proofs.straight.before_straight.Statement.{statement}
 use Rattle.certify.proofs.straight.before_straight.Tie as tie
 
 abbrev Inv-loop : tie.InvT-loop
-Inv-loop steps left₀ of₀ left of = (length of ≡ 8) × ((left ≤ 16) × ((c : Code) (s : Thread) → Gone c s steps left₀ → Back c s steps left of₀ of))
+Inv-loop steps left₀ of₀ left of = (length of ≡ 8) × ((left ≤ 16) × ((c : Code) (s z : Thread) → Walked c s steps left₀ z → Back c s z steps left of₀ of))
 
 abbrev μ-loop : tie.MeasureT-loop
 μ-loop steps left₀ of₀ left of = left
 
-walk-from-requires : tie.Need-walk-from-requires Inv-loop μ-loop
-walk-from-requires c κs = c .pre
-
 loop-holds : tie.Need-loop-holds Inv-loop μ-loop
-loop-holds c = (search length-mapped depth 7, (c .before .before .walk-from .ensures .few, λ c' s g. back-start c' s _ _ _ g))
+loop-holds c = (search length-mapped depth 7, (c .before .before .pre, λ c' s z g. back-start c' s z _ _ _ g))
 
 sub-left : tie.Need-sub-left Inv-loop μ-loop
 sub-left c = let l = c .loop-test .taken in omega arith
@@ -42,7 +39,7 @@ loop-again : tie.Need-loop-again Inv-loop μ-loop
 loop-again c =
     let b = c .before .before .before .before .before .before .loop .inv .1 in
     let h = b .0 in
-    (c .before-compute .ensures .0, (omega arith, λ c' s g. one-compute-back _ _ _ _ (c .before .before .before .before .before .loop-test .taken) (c .before .before .if1 .taken) (c .before-compute .ensures .1) c' s _ (b .1 c' s g)))
+    (c .before-compute .ensures .0, (omega arith, λ c' s z g. one-compute-back _ _ _ _ (c .before .before .before .before .before .loop-test .taken) (c .before .before .if1 .taken) (c .before-compute .ensures .1) c' s z _ (b .1 c' s z g)))
 
 before-branch-requires : tie.Need-before-branch-requires Inv-loop μ-loop
 before-branch-requires c κs = c .before .before .before .before .before .before .before .loop .inv .0
@@ -54,7 +51,7 @@ loop-again-2 : tie.Need-loop-again-2 Inv-loop μ-loop
 loop-again-2 c =
     let b = c .before .before .before .before .before .before .before .before .loop .inv .1 in
     let h = b .0 in
-    (c .before-branch .ensures .0, (omega arith, λ c' s g. one-branch-back _ _ _ _ (c .before .before .before .before .before .before .before .loop-test .taken) (c .before .before .if2 .taken) (c .before-branch .ensures .1) c' s _ (b .1 c' s g)))
+    (c .before-branch .ensures .0, (omega arith, λ c' s z g. one-branch-back _ _ _ _ (c .before .before .before .before .before .before .before .loop-test .taken) (c .before .before .if2 .taken) (c .before-branch .ensures .1) c' s z _ (b .1 c' s z g)))
 
 loop-less-3 : tie.Need-loop-less-3 Inv-loop μ-loop
 loop-less-3 c = let l = c .before .before .before .before .before .loop-test .taken in omega arith
@@ -63,10 +60,10 @@ loop-again-3 : tie.Need-loop-again-3 Inv-loop μ-loop
 loop-again-3 c =
     let b = c .before .before .before .before .before .before .loop .inv .1 in
     let h = b .0 in
-    (c .before .before .before .before .before .before .loop .inv .0, (omega arith, λ c' s g. one-fence-back _ _ _ _ (c .before .before .before .before .before .loop-test .taken) (c .before .before .if1 .left) (c .if2 .left) refl c' s _ (b .1 c' s g)))
+    (c .before .before .before .before .before .before .loop .inv .0, (omega arith, λ c' s z g. one-fence-back _ _ _ _ (c .before .before .before .before .before .loop-test .taken) (c .before .before .if1 .left) (c .if2 .left) refl c' s z _ (b .1 c' s z g)))
 
 returns : tie.Need-returns Inv-loop μ-loop
-returns c = let a = c .before .before .before .before .before .args in back-end (a .c) (a .s) _ _ _ _ (let l = c .loop-test .left in omega arith) (c .before .loop .inv .1 .1 (a .c) (a .s) (c .before .before .before .before .walk-from .ensures))
+returns c = λ c' s s' g. back-end c' s _ _ _ _ _ (let l = c .loop-test .left in omega arith) (c .before .loop .inv .1 .1 c' s _ g) s'
 
 pub before-straight-spec : {M : Type 1} → statement M
 before-straight-spec =
@@ -74,7 +71,6 @@ before-straight-spec =
     (tie.spec
     Inv-loop
     μ-loop
-    walk-from-requires
     loop-holds
     sub-left
     mul-e

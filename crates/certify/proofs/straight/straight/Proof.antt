@@ -1,100 +1,153 @@
--- `certify::straight::straight` meets its contract.
+-- `certify::straight::straight` meets its contract: one case for each kind of instruction.
 -- Assumes nothing.
+use mathlib.Core.Path.{refl}
 use Prim.Native.Nat.{_-_}
 use native.Mathlib.Omega.{arith}
 use borrow.Author.Needs.{needs}
-use Rattle.machine.proofs.Cases.{reach-within}
-use Rattle.certify.specs.Straight.{Leads, here}
-use Rattle.certify.proofs.Plain.{leads-on, halts-end, halts-at, halts-op, plain-compute, plain-branch, plain-fence, halts-load, halts-store}
+use Rattle.source.proofs.Arrays.{length-mapped}
+use Rattle.certify.proofs.Plain.{halts-end, halts-op}
+use Rattle.certify.proofs.Walking.{op-rest, branch-lands, On, Turn, turn-compute, turn-past, turn-branch, turn-fence, on-start, on-gone}
 use Rattle.certify.proofs.straight.straight.Statement.{statement}
 use Rattle.certify.proofs.straight.straight.Tie as tie
 
 abbrev Inv-loop : tie.InvT-loop
-Inv-loop c op y₀ y = Leads c y₀ y
+Inv-loop s c registers₀ n₀ views₀ steps₀ count₀ registers n views steps count = On c s registers n views steps count
 
 abbrev μ-loop : tie.MeasureT-loop
-μ-loop c op y₀ y = 17 - y .position
+μ-loop s c registers₀ n₀ views₀ steps₀ count₀ registers n views steps count = 17 - n
 
-returns : tie.Need-returns Inv-loop μ-loop
-returns c = record { leads = here; halts = halts-end _ _ (c .if1 .taken) }
+-- what is known when the step is put in
+turn-at : (c : tie.After-step-over Inv-loop μ-loop)
+    → Turn (c .before .before .before .before .before .before .before .before .before .before .before .before .before .before .before .before .args .t1) (c .before .before .before .before .before .before .before .before .before .before .before .before .before .before .before .before .args .s) (c .before .before .before .before .before .before .before .before .before .before .before .before .loop .registers) (c .before .before .before .before .before .before .before .before .before .before .before .before .loop .n) (c .before .before .before .before .before .before .before .before .before .before .before .before .loop .views) (c .before .before .before .before .before .before .before .before .before .before .before .before .loop .steps) (c .before .before .before .before .before .before .before .before .before .before .before .before .loop .count) (c .before .before .before .before .operand-in .result) (c .before .operand-in2 .result) (c .step-over .result)
+turn-at c =
+    record {
+      tells = c .step-over .ensures;
+      on = c .before .before .before .before .before .before .before .before .before .before .before .before .loop .inv;
+      inside = c .before .before .before .before .before .before .before .before .before .before .before .loop-test .taken;
+      short = c .before .before .before .before .before .before .before .before .before .before .before .before .before .before .before .before .pre .short;
+      first-found = c .before .before .before .before .operand-in .ensures;
+      second-found = c .before .operand-in2 .ensures;
+    }
 
-instruction-at-requires : tie.Need-instruction-at-requires Inv-loop μ-loop
-instruction-at-requires c κs = let h = c .before .before .before .pre .short in let l = c .if1 .left in omega arith
-
-returns-2 : tie.Need-returns-2 Inv-loop μ-loop
-returns-2 c = record { leads = here; halts = halts-op _ _ _ (c .before .instruction-at .ensures) (c .if2 .taken) }
+none-requires : tie.Need-none-requires Inv-loop μ-loop
+none-requires c κs = tt
 
 loop-holds : tie.Need-loop-holds Inv-loop μ-loop
-loop-holds c = here
+loop-holds c = on-start _ _ _ refl (search length-mapped depth 7)
 
-instr-at-requires : tie.Need-instr-at-requires Inv-loop μ-loop
-instr-at-requires c κs = let h = c .before .before .before .before .before .before .before .before .before .pre .short in let l = c .if3 .taken in (omega arith, l)
+cast-i : tie.Need-cast-i Inv-loop μ-loop
+cast-i c = search needs
 
-enum-known-x : tie.Need-enum-known-x Inv-loop μ-loop
-enum-known-x c = search needs
+mul-i : tie.Need-mul-i Inv-loop μ-loop
+mul-i c = search needs
 
-value-of-requires : tie.Need-value-of-requires Inv-loop μ-loop
-value-of-requires c κs = search needs
+element-copy-out-i : tie.Need-element-copy-out-i Inv-loop μ-loop
+element-copy-out-i c = let l = c .loop-test .taken in let s = c .before .before .before .before .before .pre .short in omega arith
 
-value-of-requires-2 : tie.Need-value-of-requires-2 Inv-loop μ-loop
-value-of-requires-2 c κs = search needs
+standing-requires : tie.Need-standing-requires Inv-loop μ-loop
+standing-requires c κs = tt
 
-combine-requires : tie.Need-combine-requires Inv-loop μ-loop
-combine-requires c κs = search needs
+returns : tie.Need-returns Inv-loop μ-loop
+returns c = on-gone (c .before .before .before .before .before .before .loop .inv) _ (c .standing .ensures) (halts-op _ _ _ refl (c .before .if1 .taken))
 
-view-of-both-requires : tie.Need-view-of-both-requires Inv-loop μ-loop
-view-of-both-requires c κs = search needs
+cast-operand-in : tie.Need-cast-operand-in Inv-loop μ-loop
+cast-operand-in c = search needs
 
-with-register-requires : tie.Need-with-register-requires Inv-loop μ-loop
-with-register-requires c κs = search needs
+mul-operand-in : tie.Need-mul-operand-in Inv-loop μ-loop
+mul-operand-in c = search needs
 
-advance-requires : tie.Need-advance-requires Inv-loop μ-loop
-advance-requires c κs = let h = c .before .before .before .before .before .before .before .before .before .before .before .before .before .before .before .before .before .before .pre .short in let l = c .before .before .before .before .before .before .before .before .before .if3 .taken in rw (c .with-register .ensures) (omega arith)
+array-copy-out-operand-in : tie.Need-array-copy-out-operand-in Inv-loop μ-loop
+array-copy-out-operand-in c = search needs
+
+operand-in-requires : tie.Need-operand-in-requires Inv-loop μ-loop
+operand-in-requires c κs = tt
+
+cast-operand-in-2 : tie.Need-cast-operand-in-2 Inv-loop μ-loop
+cast-operand-in-2 c = search needs
+
+mul-operand-in-2 : tie.Need-mul-operand-in-2 Inv-loop μ-loop
+mul-operand-in-2 c = search needs
+
+array-copy-out-operand-in-2 : tie.Need-array-copy-out-operand-in-2 Inv-loop μ-loop
+array-copy-out-operand-in-2 c = search needs
+
+operand-in-requires-2 : tie.Need-operand-in-requires-2 Inv-loop μ-loop
+operand-in-requires-2 c κs = tt
+
+step-over-requires : tie.Need-step-over-requires Inv-loop μ-loop
+step-over-requires c κs = tt
+
+mul-steps : tie.Need-mul-steps Inv-loop μ-loop
+mul-steps c = let h = c .before .before .before .before .before .before .before .before .before .before .before .before .loop .inv .few in omega arith
+
+array-set-from-steps : tie.Need-array-set-from-steps Inv-loop μ-loop
+array-set-from-steps c = let h = c .before .before .before .before .before .before .before .before .before .before .before .before .loop .inv .far in let l = c .before .before .before .before .before .before .before .before .before .before .before .loop-test .taken in let s = c .before .before .before .before .before .before .before .before .before .before .before .before .before .before .before .before .pre .short in omega arith
+
+add-count : tie.Need-add-count Inv-loop μ-loop
+add-count c = let h = c .before .before .before .before .before .before .before .before .before .before .before .before .loop .inv .few in omega arith
+
+add-n : tie.Need-add-n Inv-loop μ-loop
+add-n c = let l = c .before .before .before .before .before .before .before .before .before .before .before .before .before .loop-test .taken in let s = c .before .before .before .before .before .before .before .before .before .before .before .before .before .before .before .before .before .before .pre .short in omega arith
+
+computed-requires : tie.Need-computed-requires Inv-loop μ-loop
+computed-requires c κs = tt
+
+cast-registers : tie.Need-cast-registers Inv-loop μ-loop
+cast-registers c = search needs
+
+mul-registers : tie.Need-mul-registers Inv-loop μ-loop
+mul-registers c = search needs
+
+array-set-from-registers : tie.Need-array-set-from-registers Inv-loop μ-loop
+array-set-from-registers c = search needs
 
 loop-less : tie.Need-loop-less Inv-loop μ-loop
-loop-less c = let w = (leads-on {y' = c .advance .result} _ (c .before .before .before .before .before .before .before .before .before .before .before .before .before .loop .inv) (c .before .before .before .before .before .before .before .before .before .instr-at .ensures) (plain-compute _ _ _ (c .before .before .before .before .before .before .before .x .given .1) (rw (c .advance .ensures, c .before .with-register .ensures, c .before .before .view-of-both .ensures, c .before .before .before .combine .ensures, c .before .before .before .before .value-of2 .ensures, c .before .before .before .before .before .value-of .ensures)))) .1 in let l = c .before .before .before .before .before .before .before .before .before .before .if3 .taken in let h = c .before .before .before .before .before .before .before .before .before .before .before .before .before .before .before .before .before .before .before .pre .short in omega arith
+loop-less c = let l = c .before .before .before .before .before .before .before .before .before .before .before .before .before .before .before .before .before .loop-test .taken in let s = c .before .before .before .before .before .before .before .before .before .before .before .before .before .before .before .before .before .before .before .before .before .before .pre .short in omega arith
 
 loop-again : tie.Need-loop-again Inv-loop μ-loop
-loop-again c = (leads-on {y' = c .advance .result} _ (c .before .before .before .before .before .before .before .before .before .before .before .before .before .loop .inv) (c .before .before .before .before .before .before .before .before .before .instr-at .ensures) (plain-compute _ _ _ (c .before .before .before .before .before .before .before .x .given .1) (rw (c .advance .ensures, c .before .with-register .ensures, c .before .before .view-of-both .ensures, c .before .before .before .combine .ensures, c .before .before .before .before .value-of2 .ensures, c .before .before .before .before .before .value-of .ensures)))) .0
-
-enum-known-x-2 : tie.Need-enum-known-x-2 Inv-loop μ-loop
-enum-known-x-2 c = search needs
-
-branch-done-requires : tie.Need-branch-done-requires Inv-loop μ-loop
-branch-done-requires c κs = let h = reach-within _ (c .before .before .before .before .before .before .before .before .before .before .before .before .before .pre) _ _ (c .before .before .before .instr-at .ensures) in let q = rw (c .before .x2 .given .1) at h in let s = c .before .before .before .before .before .before .before .before .before .before .before .before .before .pre .short in omega arith
+loop-again c = turn-compute (turn-at (c .before .before .before .before .before .before)) (c .before .before .before .before .if2 .taken) _ (c .before .computed .ensures)
 
 loop-less-2 : tie.Need-loop-less-2 Inv-loop μ-loop
-loop-less-2 c = let w = (leads-on _ (c .before .before .before .before .before .before .before .before .loop .inv) (c .before .before .before .before .instr-at .ensures) (plain-branch _ _ _ (c .before .before .x2 .given .1) (c .branch-done .ensures))) .1 in let l = c .before .before .before .before .before .if3 .taken in let h = c .before .before .before .before .before .before .before .before .before .before .before .before .before .before .pre .short in omega arith
+loop-less-2 c = let l = c .before .before .before .before .before .before .before .before .before .before .before .before .before .before .before .loop-test .taken in let s = c .before .before .before .before .before .before .before .before .before .before .before .before .before .before .before .before .before .before .before .before .pre .short in omega arith
 
 loop-again-2 : tie.Need-loop-again-2 Inv-loop μ-loop
-loop-again-2 c = (leads-on _ (c .before .before .before .before .before .before .before .before .loop .inv) (c .before .before .before .before .instr-at .ensures) (plain-branch _ _ _ (c .before .before .x2 .given .1) (c .branch-done .ensures))) .0
+loop-again-2 c = turn-past (turn-at (c .before .before .before .before)) (c .before .before .if2 .taken) (c .if3 .left)
 
-enum-known-x-3 : tie.Need-enum-known-x-3 Inv-loop μ-loop
-enum-known-x-3 c = search needs
+passed-requires : tie.Need-passed-requires Inv-loop μ-loop
+passed-requires c κs = let l = c .before .before .before .before .before .before .before .before .before .before .before .before .before .before .before .loop-test .taken in let s = c .before .before .before .before .before .before .before .before .before .before .before .before .before .before .before .before .before .before .before .before .pre .short in let h = branch-lands _ _ l (c .before .before .before .before .before .before .before .before .before .before .before .before .before .before .before .before .before .before .before .before .pre) (c .if4 .taken) in omega arith
 
-fence-done-requires : tie.Need-fence-done-requires Inv-loop μ-loop
-fence-done-requires c κs = let h = c .before .before .before .before .before .before .before .before .before .before .before .before .before .pre .short in let l = c .before .before .before .before .if3 .taken in omega arith
+add-n-2 : tie.Need-add-n-2 Inv-loop μ-loop
+add-n-2 c = let l = c .before .before .before .before .before .before .before .before .before .before .before .before .before .before .before .before .loop-test .taken in let s = c .before .before .before .before .before .before .before .before .before .before .before .before .before .before .before .before .before .before .before .before .before .pre .short in let h = branch-lands _ _ l (c .before .before .before .before .before .before .before .before .before .before .before .before .before .before .before .before .before .before .before .before .before .pre) (c .before .if4 .taken) in let p = c .passed .ensures .1 .1 in omega arith
+
+larger-requires : tie.Need-larger-requires Inv-loop μ-loop
+larger-requires c κs = tt
+
+raise-cap-requires : tie.Need-raise-cap-requires Inv-loop μ-loop
+raise-cap-requires c κs = tt
 
 loop-less-3 : tie.Need-loop-less-3 Inv-loop μ-loop
-loop-less-3 c = let w = (leads-on _ (c .before .before .before .before .before .before .before .before .loop .inv) (c .before .before .before .before .instr-at .ensures) (plain-fence _ _ _ (c .before .before .x3 .given .1) (c .fence-done .ensures))) .1 in let l = c .before .before .before .before .before .if3 .taken in let h = c .before .before .before .before .before .before .before .before .before .before .before .before .before .before .pre .short in omega arith
+loop-less-3 c = let l = c .before .before .before .before .before .before .before .before .before .before .before .before .before .before .before .before .before .before .loop-test .taken in let s = c .before .before .before .before .before .before .before .before .before .before .before .before .before .before .before .before .before .before .before .before .before .before .before .pre .short in let z = c .before .before .passed .ensures .1 .0 in omega arith
 
 loop-again-3 : tie.Need-loop-again-3 Inv-loop μ-loop
-loop-again-3 c = (leads-on _ (c .before .before .before .before .before .before .before .before .loop .inv) (c .before .before .before .before .instr-at .ensures) (plain-fence _ _ _ (c .before .before .x3 .given .1) (c .fence-done .ensures))) .0
+loop-again-3 c = turn-branch (turn-at (c .before .before .before .before .before .before .before)) (c .before .before .before .if4 .taken) _ (c .before .before .passed .ensures .1 .0) (c .before .before .passed .ensures .0) _ (rw (c .raise-cap .ensures, c .before .larger .ensures) refl)
 
-enum-told : tie.Need-enum-told Inv-loop μ-loop
-enum-told c = search needs
+add-n-3 : tie.Need-add-n-3 Inv-loop μ-loop
+add-n-3 c = let l = c .before .before .before .before .before .before .before .before .before .before .before .before .before .before .before .loop-test .taken in let s = c .before .before .before .before .before .before .before .before .before .before .before .before .before .before .before .before .before .before .before .before .pre .short in omega arith
 
-returns-3 : tie.Need-returns-3 Inv-loop μ-loop
-returns-3 c = record { leads = c .before .before .before .before .before .before .loop .inv; halts = halts-at _ _ _ (c .before .before .instr-at .ensures) (halts-load _ _ (c .enum-told .given .1)) }
+fenced-requires : tie.Need-fenced-requires Inv-loop μ-loop
+fenced-requires c κs = tt
 
-enum-told-2 : tie.Need-enum-told-2 Inv-loop μ-loop
-enum-told-2 c = search needs
+loop-less-4 : tie.Need-loop-less-4 Inv-loop μ-loop
+loop-less-4 c = let l = c .before .before .before .before .before .before .before .before .before .before .before .before .before .before .before .before .loop-test .taken in let s = c .before .before .before .before .before .before .before .before .before .before .before .before .before .before .before .before .before .before .before .before .before .pre .short in omega arith
 
-returns-4 : tie.Need-returns-4 Inv-loop μ-loop
-returns-4 c = record { leads = c .before .before .before .before .before .before .loop .inv; halts = halts-at _ _ _ (c .before .before .instr-at .ensures) (halts-store _ _ (c .enum-told2 .given .1)) }
+loop-again-4 : tie.Need-loop-again-4 Inv-loop μ-loop
+loop-again-4 c = turn-fence (turn-at (c .before .before .before .before .before)) (op-rest _ (c .before .before .before .before .before .before .before .before .before .before .before .before .if1 .left) (c .before .before .before .if2 .left) (c .before .if4 .left)) _ (c .fenced .ensures)
 
-returns-5 : tie.Need-returns-5 Inv-loop μ-loop
-returns-5 c = record { leads = c .before .before .before .loop .inv; halts = halts-end _ _ (c .if3 .left) }
+standing-requires-2 : tie.Need-standing-requires-2 Inv-loop μ-loop
+standing-requires-2 c κs = tt
+
+returns-2 : tie.Need-returns-2 Inv-loop μ-loop
+returns-2 c = on-gone (c .before .before .loop .inv) _ (c .standing2 .ensures) (halts-end _ _ (let l = c .before .loop-test .left in omega arith))
 
 pub straight-spec : {M : Type 1} → statement M
 straight-spec =
@@ -102,30 +155,43 @@ straight-spec =
     (tie.spec
     Inv-loop
     μ-loop
-    returns
-    instruction-at-requires
-    returns-2
+    none-requires
     loop-holds
-    instr-at-requires
-    enum-known-x
-    value-of-requires
-    value-of-requires-2
-    combine-requires
-    view-of-both-requires
-    with-register-requires
-    advance-requires
+    cast-i
+    mul-i
+    element-copy-out-i
+    standing-requires
+    returns
+    cast-operand-in
+    mul-operand-in
+    array-copy-out-operand-in
+    operand-in-requires
+    cast-operand-in-2
+    mul-operand-in-2
+    array-copy-out-operand-in-2
+    operand-in-requires-2
+    step-over-requires
+    mul-steps
+    array-set-from-steps
+    add-count
+    add-n
+    computed-requires
+    cast-registers
+    mul-registers
+    array-set-from-registers
     loop-less
     loop-again
-    enum-known-x-2
-    branch-done-requires
     loop-less-2
     loop-again-2
-    enum-known-x-3
-    fence-done-requires
+    passed-requires
+    add-n-2
+    larger-requires
+    raise-cap-requires
     loop-less-3
     loop-again-3
-    enum-told
-    returns-3
-    enum-told-2
-    returns-4
-    returns-5)
+    add-n-3
+    fenced-requires
+    loop-less-4
+    loop-again-4
+    standing-requires-2
+    returns-2)
