@@ -95,14 +95,20 @@ fn examples_to_the_end() {
     examples().iter().for_each(|example| exactly(example, blyskota::TABLE));
 }
 
-/// The files that take longest, with the budget of their benchmark.
+/// The files that take longest: with the budget of their benchmark as the twin's recorded answer says, and
+/// with a quarter of it as the twin itself, which in an emulator would take minutes for the whole.
 #[test]
 fn worst_files() {
     for vector in worst::files() {
-        for budget in [1, worst::BUDGET / 2, worst::BUDGET] {
-            let call = Call::Search { file: vector.file.clone(), budget, area: 500 };
+        let search = |budget| Call::Search { file: vector.file.clone(), budget, area: 500 };
+        for budget in [1, worst::BUDGET / 4] {
+            let call = search(budget);
             assert_eq!(call.ask(&Library, 12), call.ask(&Twin, 12), "{} {budget}", vector.name);
         }
+        let whole = search(worst::BUDGET);
+        let left = whole.ask(&Library, 12);
+        assert_eq!(whole.verdict(&left), Some(verdict_byte(vector.verdict)), "{}", vector.name);
+        assert_eq!(left.answer[8..], (vector.count as u32).to_le_bytes(), "{}", vector.name);
     }
 }
 
