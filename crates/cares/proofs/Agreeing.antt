@@ -1,11 +1,15 @@
--- What cares ask: a care of two values, the cares of all registers, and what is asked when the care for one register is replaced.
+-- What cares ask: a care of two values, two cares joined, the cares of all registers, and what is asked when the care for one register is replaced.
 -- Assumes nothing.
 use mathlib.Core.Path.{_≡_, refl, sym, ap, subst, _∙_}
-use mathlib.Core.Logic.{_⊎_, inl, inr}
+use mathlib.Core.Logic.{_⊎_, inl, inr, ⊎-elim, ⊎-map}
+use mathlib.Core.Bool.{true, _||_}
 use mathlib.Core.List.{List, [], _∷_}
-use Prim.Native.Nat.{ℕ, zero, suc, _+_, _%_, _≤_, _<_}
+use Prim.Native.Nat.{ℕ, zero, suc, _+_, _*_, _/_, _%_, _^_, _≤_, _<_}
+use native.Mathlib.Nat.{zero-div}
 use native.Mathlib.Decide.{ℕ-discrete, decLt}
 use native.Mathlib.Omega.{arith}
+use lib.Bits.{bitOr, or-self, or-zero-r, or-shr, or-mod}
+use lib.Dec.{T, eqb, eqb→eq}
 use lib.ListN.{length, getD, set, List·getD-eq-default}
 use lib.Seq.{getD-set-same, getD-set-other}
 use borrow.Author.Tests.{ne-eqb}
@@ -14,69 +18,108 @@ use Rattle.source.specs.Program.{operand}
 use Rattle.machine.specs.Rules.{address, valueOf}
 use Rattle.machine.specs.declared.Thread.{Thread}
 use Rattle.source.proofs.Arrays.{getD-any}
-use Rattle.cares.specs.Cares.{Agrees, same, free, near, other, above, below, away, careOf, held, Agreeing, AgreeingBut, Covers}
+use Rattle.source.proofs.Tests.{or-cases}
+use Rattle.cares.specs.Cares.{Marked, Coded, free, other, above, below, Agrees, same, alike, careOf, held, Agreeing, AgreeingBut, Covers}
+use Rattle.cares.proofs.Marks.{all-marked, marked-left, marked-right}
 
 -- ---- one care
-module _ {x y : ℕ} where
-  -- care 2 asks for the value
-  pub same-value : Agrees 2 x y → x ≡ y
-  same-value (same e) = e
-  same-value (free e) = absurd (omega arith)
-  same-value (near e a) = absurd (omega arith)
-  same-value (other l h n) = absurd (omega arith)
-  same-value (above l h n) = absurd (omega arith)
-  same-value (below h l) = absurd (omega arith)
-  same-value (away l n) = absurd (omega arith)
+-- no location is in the set 0
+none-marked : (l : ℕ) → Marked 0 l → ⊥
+none-marked l b = let z = zero-div (2 ^ l) in omega arith
 
-  -- care 1 asks for the address
-  pub same-address : Agrees 1 x y → address x ≡ address y
-  same-address (same e) = omega arith
-  same-address (free e) = absurd (omega arith)
-  same-address (near e a) = a
-  same-address (other l h n) = absurd (omega arith)
-  same-address (above l h n) = absurd (omega arith)
-  same-address (below h l) = absurd (omega arith)
-  same-address (away l n) = absurd (omega arith)
+-- the code 2 allows no other value
+no-other : {k y : ℕ} → k ≡ 2 → Coded k y → ⊥
+no-other i (free e) = omega arith
+no-other i (other l h n) = omega arith
+no-other i (above l h n) = omega arith
+no-other i (below l) = omega arith
+
+module _ {x y : ℕ} where
+  -- a care with the code 2 asks for the value
+  pub value-asked : {k : ℕ} → k % 65536 ≡ 2 → Agrees k x y → x ≡ y
+  value-asked i (same e) = e
+  value-asked i (alike c m) = absurd (no-other i c)
+
+  -- so care 2
+  pub same-value : Agrees 2 x y → x ≡ y
+  same-value a = value-asked refl a
+
+  -- any care asks that the location is none of its set, or the same
+  pub location-asked : {k : ℕ} → Agrees k x y → Marked (k / 65536) (address y) → address x ≡ address y
+  location-asked (same e) b = ap address e
+  location-asked (alike c m) b = m b
+
+  -- so one that has no code
+  pub not-barred : (set : ℕ) → Agrees (65536 * set) x y → Marked set (address y) → address x ≡ address y
+  not-barred set a b = let i : set ≡ 65536 * set / 65536 = omega arith in location-asked a (subst (λ (p : ℕ). Marked p (address y)) i b)
+
+  -- with all locations it asks for the address
+  pub same-address : Agrees (65536 * 65535) x y → address x ≡ address y
+  same-address a = not-barred 65535 a (all-marked (address y) (omega arith))
 
   -- a care from 256 on and below 512 asks that the other value is the same or not the one it names
   pub not-that : {k : ℕ} → 256 ≤ k → k < 512 → Agrees k x y → (x ≡ y) ⊎ (k ≡ 256 + y % 256 → ⊥)
   not-that l g (same e) = inl e
-  not-that l g (free e) = absurd (omega arith)
-  not-that l g (near e a) = absurd (omega arith)
-  not-that l g (other l' h n) = inr n
-  not-that l g (above l' h n) = absurd (omega arith)
-  not-that l g (below h n) = absurd (omega arith)
-  not-that l g (away h n) = absurd (omega arith)
+  not-that l g (alike (free e) m) = absurd (omega arith)
+  not-that l g (alike (other l' h n) m) = inr (λ e. n (omega arith))
+  not-that l g (alike (above l' h n) m) = absurd (omega arith)
+  not-that l g (alike (below n) m) = absurd (omega arith)
 
   -- from 512 on and below 768, that it is the same or not less
   pub not-less : {k : ℕ} → 512 ≤ k → k < 768 → Agrees k x y → (x ≡ y) ⊎ (k ≤ 512 + y)
   not-less l g (same e) = inl e
-  not-less l g (free e) = absurd (omega arith)
-  not-less l g (near e a) = absurd (omega arith)
-  not-less l g (other l' h n) = absurd (omega arith)
-  not-less l g (above l' h n) = inr n
-  not-less l g (below h n) = absurd (omega arith)
-  not-less l g (away h n) = absurd (omega arith)
+  not-less l g (alike (free e) m) = absurd (omega arith)
+  not-less l g (alike (other l' h n) m) = absurd (omega arith)
+  not-less l g (alike (above l' h n) m) = inr (omega arith)
+  not-less l g (alike (below n) m) = absurd (omega arith)
 
-  -- from 768 on and below 2048, that it is the same or less
-  pub less : {k : ℕ} → 768 ≤ k → k < 2048 → Agrees k x y → (x ≡ y) ⊎ (768 + y < k)
+  -- from 768 on and below 65536, that it is the same or less
+  pub less : {k : ℕ} → 768 ≤ k → k < 65536 → Agrees k x y → (x ≡ y) ⊎ (768 + y < k)
   less l g (same e) = inl e
-  less l g (free e) = absurd (omega arith)
-  less l g (near e a) = absurd (omega arith)
-  less l g (other l' h n) = absurd (omega arith)
-  less l g (above l' h n) = absurd (omega arith)
-  less l g (below h n) = inr n
-  less l g (away h n) = absurd (omega arith)
+  less l g (alike (free e) m) = absurd (omega arith)
+  less l g (alike (other l' h n) m) = absurd (omega arith)
+  less l g (alike (above l' h n) m) = absurd (omega arith)
+  less l g (alike (below n) m) = inr (omega arith)
 
-  -- from 2048 on, that it is the same or modulo 16 not the one it names
-  pub not-there : {k : ℕ} → 2048 ≤ k → Agrees k x y → (x ≡ y) ⊎ (k ≡ 2048 + address y → ⊥)
-  not-there l (same e) = inl e
-  not-there l (free e) = absurd (omega arith)
-  not-there l (near e a) = absurd (omega arith)
-  not-there l (other l' h n) = absurd (omega arith)
-  not-there l (above l' h n) = absurd (omega arith)
-  not-there l (below h n) = absurd (omega arith)
-  not-there l (away h n) = inr n
+  -- a care below 65536 has no set: its code is all that it asks
+  pub by-code : {k : ℕ} → k < 65536 → Coded k y → Agrees k x y
+  by-code {k} l c =
+      let i : k ≡ k % 65536 = omega arith in
+      let j : k / 65536 ≡ 0 = omega arith in
+      alike (subst (λ (n : ℕ). Coded n y) i c) (λ b. absurd (none-marked (address y) (subst (λ (p : ℕ). Marked p (address y)) j b)))
+
+  -- care 0 asks nothing
+  pub nothing-asked : {k : ℕ} → k ≡ 0 → Agrees k x y
+  nothing-asked e = by-code (omega arith) (free e)
+
+-- ---- two cares, joined
+-- a care asks no more than another that has its locations, and its code if it has one
+asks-less : {j k x y : ℕ} → (k % 65536 ≡ j % 65536) ⊎ (k % 65536 ≡ 0) → ((l : ℕ) → Marked (k / 65536) l → Marked (j / 65536) l) → Agrees j x y → Agrees k x y
+asks-less h g (same e) = same e
+asks-less {y = y} h g (alike c m) = alike (⊎-elim (λ e. subst (λ (n : ℕ). Coded n y) (sym e) c) free h) (λ b. m (g (address y) b))
+
+-- the codes are the same, or one of them is 0
+alike-codes : (a b : ℕ) → (eqb a b || eqb a 0 || eqb b 0) ≡ true → ((a ≡ b) ⊎ (a ≡ 0)) ⊎ (b ≡ 0)
+alike-codes a b t =
+    ⊎-map (λ u. ⊎-map (eqb→eq a b) (eqb→eq a 0) (or-cases (eqb a b) (eqb a 0) u)) (eqb→eq b 0) (or-cases (eqb a b || eqb a 0) (eqb b 0) (subst T (sym t) tt))
+
+-- then each is what both make or 0
+each-code : {c : ℕ} (a b : ℕ) → c ≡ bitOr a b → ((a ≡ b) ⊎ (a ≡ 0)) ⊎ (b ≡ 0) → ((a ≡ c) ⊎ (a ≡ 0)) × ((b ≡ c) ⊎ (b ≡ 0))
+each-code a b i (inl (inl e)) = (inl (sym (i ∙ ap (bitOr a) (sym e) ∙ or-self a)), inl (sym (i ∙ ap (λ (v : ℕ). bitOr v b) e ∙ or-self b)))
+each-code a b i (inl (inr e)) = (inr e, inl (sym (i ∙ ap (λ (v : ℕ). bitOr v b) e)))
+each-code a b i (inr e) = (inl (sym (i ∙ ap (bitOr a) e ∙ or-zero-r a)), inr e)
+
+-- so what two cares make asks what each asks
+pub both-asked : (k l : ℕ) → (eqb (k % 65536) (l % 65536) || eqb (k % 65536) 0 || eqb (l % 65536) 0) ≡ true
+    → (x y : ℕ) → Agrees (bitOr k l) x y → Agrees k x y × Agrees l x y
+both-asked k l t x y a =
+    let codes = each-code (k % 65536) (l % 65536) (or-mod k l 16) (alike-codes (k % 65536) (l % 65536) t) in (
+      asks-less (codes .0) (λ i m. wider i (marked-left (k / 65536) (l / 65536) i m)) a,
+      asks-less (codes .1) (λ i m. wider i (marked-right (k / 65536) (l / 65536) i m)) a,
+    )
+  where
+    wider : (i : ℕ) → Marked (bitOr (k / 65536) (l / 65536)) i → Marked (bitOr k l / 65536) i
+    wider i m = subst (λ (p : ℕ). Marked p i) (sym (or-shr k l 16)) m
 
 -- ---- the cares of all registers
 -- a care that asks more is put in: no register's care asks less than before

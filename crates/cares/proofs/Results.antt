@@ -14,26 +14,19 @@ use Rattle.source.specs.Program.{computeMode}
 use Rattle.machine.specs.Rules.{address, combine, branchBy}
 use Rattle.source.specs.declared.ComputeMode.{ComputeMode}
 use Rattle.source.specs.declared.ComputeMode.the-variants.{Add, Subtract, ExclusiveOr, Equal}
-use Rattle.cares.specs.Cares.{Agrees, same, other}
-use Rattle.cares.proofs.Agreeing.{same-value, same-address, not-that}
+use Rattle.cares.specs.Cares.{Marked, free, other, Agrees, same, alike}
+use Rattle.cares.proofs.Agreeing.{same-value, not-barred, same-address, not-that, by-code}
 
 -- ---- the address of a computed value
 -- taken modulo 256, it stays
 low : (n : ℕ) → n % 256 % 16 ≡ n % 16
 low n = omega arith
 
--- of a sum, by the operands' addresses
-sum-address : (x y : ℕ) → address ((x + y) % 256) ≡ address (address x + address y)
-sum-address x y = low (x + y) ∙ apart
-  where
-    apart : (x + y) % 16 ≡ (x % 16 + y % 16) % 16
-    apart = omega arith
-
 -- of a difference, where the second operand is a byte
-difference-address : (x y : ℕ) → y < 256 → address ((x + 256 - y) % 256) ≡ address (address x + 16 - address y)
+difference-address : (x y : ℕ) → y < 256 → address ((x + 256 - y) % 256) ≡ address (16 - y % 16 + x)
 difference-address x y l = low (x + 256 - y) ∙ apart
   where
-    apart : (x + 256 - y) % 16 ≡ (x % 16 + 16 - y % 16) % 16
+    apart : (x + 256 - y) % 16 ≡ (16 - y % 16 + x) % 16
     apart = omega arith
 
 -- of an exclusive or
@@ -43,10 +36,6 @@ exclusive-address x y = xor-mod x y 4
 -- an exclusive or of bytes is a byte
 pub exclusive-byte : (x k : ℕ) → x < 256 → bitXor x (k % 256) < 256
 exclusive-byte x k l = xor-lt 8 x (k % 256) l (omega arith)
-
--- the care is met by the address z alone
-abbrev pub ByAddress : ℕ → ℕ → Type 0
-ByAddress k z = (v w : ℕ) → address v ≡ address z → address v ≡ address w → Agrees k v w
 
 -- ---- what is left of a computed value without one operand
 -- of a sum: the other operand
@@ -99,38 +88,45 @@ unfolding computeMode
 is-equal m d d' d'' = rw (ne-eqb m 0 d, ne-eqb m 1 d', ne-eqb m 2 d'')
 
 -- ---- computed values
+-- a result of the location to which b leads from that of an operand: the operand is of its location, or of none from which b leads into the set
+led : {k w w' r r' : ℕ} → k % 65536 ≡ 0 → (b t : ℕ) → ((v : ℕ) → Marked (k / 65536) (address (b + v)) → Marked t (address v)) → Agrees (65536 * t) w w'
+    → address r ≡ address (b + w) → address r' ≡ address (b + w') → Agrees k r r'
+led {k} {w} {w'} {r} {r'} e b t turns q i i' = alike (free e) (λ m. i ∙ on (not-barred t q (turns w' (subst (Marked (k / 65536)) i' m))) ∙ sym i')
+  where
+    on : w % 16 ≡ w' % 16 → (b + w) % 16 ≡ (b + w') % 16
+    on j = omega arith
+
 module _ {x y x' y' : ℕ} where
   -- the same operands: the same result
   pub same-result : (how : ComputeMode) {k : ℕ} → Agrees 2 x x' → Agrees 2 y y' → Agrees k (combine how x y) (combine how x' y')
   same-result how p q = same (ap₂ (combine how) (same-value p) (same-value q))
 
-  -- the same operands modulo 16: the same address, where it is known from theirs
-  near-by : (how : ComputeMode) (f : ℕ → ℕ → ℕ) → ((v w : ℕ) → address (combine how v w) ≡ f (address v) (address w)) → Agrees 1 x x' → Agrees 1 y y'
-      → address (combine how x y) ≡ address (combine how x' y')
-  near-by how f law p q = law x y ∙ ap₂ f (same-address p) (same-address q) ∙ sym (law x' y')
-
-  -- the same sum modulo 16
-  pub near-sum : {k : ℕ} → ByAddress k (address x + address y) → Agrees 1 x x' → Agrees 1 y y' → Agrees k (combine Add x y) (combine Add x' y')
+  -- the same addresses: the same exclusive or as an address
+  pub placed-exclusive : {k : ℕ} → k % 65536 ≡ 0 → Agrees (65536 * 65535) x x' → Agrees (65536 * 65535) y y' → Agrees k (combine ExclusiveOr x y) (combine ExclusiveOr x' y')
   unfolding combine
-  near-sum h p q = h _ _ (sum-address x y) (near-by Add (λ v w. address (v + w)) sum-address p q)
+  placed-exclusive e p q = alike (free e) (λ m. exclusive-address x y ∙ ap₂ bitXor (same-address p) (same-address q) ∙ sym (exclusive-address x' y'))
 
-  -- the same exclusive or modulo 16
-  pub near-exclusive : {k : ℕ} → ByAddress k (bitXor x y) → Agrees 1 x x' → Agrees 1 y y' → Agrees k (combine ExclusiveOr x y) (combine ExclusiveOr x' y')
-  unfolding combine
-  near-exclusive h p q = h _ _ refl (near-by ExclusiveOr bitXor exclusive-address p q)
+  module _ {k : ℕ} (e : k % 65536 ≡ 0) (t : ℕ) where
+    -- so for a sum: the first operand has the same address, and leads the second
+    pub placed-sum : ((v : ℕ) → Marked (k / 65536) (address (x + v)) → Marked t (address v)) → Agrees (65536 * 65535) x x' → Agrees (65536 * t) y y'
+        → Agrees k (combine Add x y) (combine Add x' y')
+    unfolding combine
+    placed-sum turns p q = led e x t turns q (low (x + y)) (low (x' + y') ∙ apart (same-address p))
+      where
+        apart : x % 16 ≡ x' % 16 → (x' + y') % 16 ≡ (x + y') % 16
+        apart i = omega arith
 
-  -- the same first operand modulo 16, and the same second: the same difference modulo 16
-  pub near-difference : {k : ℕ} → y < 256 → ByAddress k (address x + 16 - address y) → Agrees 1 x x' → Agrees 2 y y' → Agrees k (combine Subtract x y) (combine Subtract x' y')
-  unfolding combine
-  near-difference b h p q =
-      let i = same-value q in
-      h _ _ (difference-address x y b)
-      (difference-address x y b ∙ ap₂ (λ (v w : ℕ). address (v + 16 - address w)) (same-address p) i ∙ sym (difference-address x' y' (omega arith)))
+    -- for a difference: the second operand, a byte, is the same, and leads the first
+    pub placed-difference : y < 256 → ((v : ℕ) → Marked (k / 65536) (address (16 - y % 16 + v)) → Marked t (address v)) → Agrees (65536 * t) x x' → Agrees 2 y y'
+        → Agrees k (combine Subtract x y) (combine Subtract x' y')
+    unfolding combine
+    placed-difference b turns p q =
+        led e (16 - y % 16) t turns p (difference-address x y b) (ap (λ (w : ℕ). address ((x' + 256 - w) % 256)) (sym (same-value q)) ∙ difference-address x' y b)
 
   -- the first operand is the same, and the second is not what it would be if the result were the value that the care names: the result is not that
   other-by : (how : ComputeMode) {k j : ℕ} → 256 ≤ k → k < 512 → 256 ≤ j → j < 512 → Agrees 2 x x' → Agrees j y y' → (k ≡ 256 + combine how x' y' % 256 → j ≡ 256 + y' % 256)
       → Agrees k (combine how x y) (combine how x' y')
-  other-by how l g l' g' p q left = ⊎-elim (λ h. same (ap₂ (combine how) (same-value p) h)) (λ n. other l g (λ i. n (left i))) (not-that l' g' q)
+  other-by how l g l' g' p q left = ⊎-elim (λ h. same (ap₂ (combine how) (same-value p) h)) (λ n. by-code (omega arith) (other l g (λ i. n (left i)))) (not-that l' g' q)
 
   -- so for a sum
   pub other-sum : {k v : ℕ} → 256 ≤ k → k < 512 → v ≡ x → v < 256 → Agrees 2 x x' → Agrees (256 + (k % 256 + 256 - v) % 256) y y' → Agrees k (combine Add x y) (combine Add x' y')
@@ -172,7 +168,7 @@ module _ {x y x' y' : ℕ} where
   pub other-difference-first : {k w : ℕ} → 256 ≤ k → k < 512 → w ≡ y → w < 256 → Agrees (256 + (k % 256 + w) % 256) x x' → Agrees 2 y y'
       → Agrees k (combine Subtract x y) (combine Subtract x' y')
   unfolding combine
-  other-difference-first {k} {w} l g e b p q = ⊎-elim (λ h. same (ap₂ (combine Subtract) h (same-value q))) (λ n. other l g (λ i. n (left i))) (not-that (omega arith) (omega arith) p)
+  other-difference-first {k} {w} l g e b p q = ⊎-elim (λ h. same (ap₂ (combine Subtract) h (same-value q))) (λ n. by-code (omega arith) (other l g (λ i. n (left i)))) (not-that (omega arith) (omega arith) p)
     where
       left : k ≡ 256 + (x' + 256 - y') % 256 % 256 → 256 + (k % 256 + w) % 256 ≡ 256 + x' % 256
       left i =
@@ -181,7 +177,13 @@ module _ {x y x' y' : ℕ} where
           let j : k % 256 ≡ (x' + 256 - w) % 256 = omega arith in
           ap (λ (m : ℕ). 256 + (m + w) % 256) j ∙ ap (λ (m : ℕ). 256 + m) (first-of-difference x' w b)
 
--- for a sum with the first operand and the second exchanged
+-- for a sum with the first operand and the second exchanged: as an address
+pub placed-sum-first : {k x y x' y' : ℕ} → k % 65536 ≡ 0 → (t : ℕ) → ((v : ℕ) → Marked (k / 65536) (address (y + v)) → Marked t (address v)) → Agrees (65536 * 65535) y y'
+    → Agrees (65536 * t) x x' → Agrees k (combine Add x y) (combine Add x' y')
+unfolding combine
+placed-sum-first {k} {x} {y} {x'} {y'} e t turns p q = rw (add-comm x y, add-comm x' y') (placed-sum e t turns p q)
+
+-- and that it is not a value
 pub other-sum-first : {k v x y x' y' : ℕ} → 256 ≤ k → k < 512 → v ≡ y → v < 256 → Agrees 2 y y' → Agrees (256 + (k % 256 + 256 - v) % 256) x x'
     → Agrees k (combine Add x y) (combine Add x' y')
 unfolding combine

@@ -3,7 +3,7 @@
 use mathlib.Core.Path.{_≡_}
 use mathlib.Core.Bool.{false}
 use mathlib.Core.List.{List}
-use Prim.Native.Nat.{ℕ, _+_, _%_, _≤_, _<_}
+use Prim.Native.Nat.{ℕ, _+_, _/_, _%_, _^_, _≤_, _<_}
 use lib.ListN.{getD}
 use Rattle.machine.specs.State.{freshRegister}
 use Rattle.source.specs.declared.Instruction.{Instruction}
@@ -13,15 +13,21 @@ use Rattle.machine.specs.Rules.{address, valueOf}
 use Rattle.machine.specs.declared.Thread.{Thread}
 pub use Rattle.cares.specs.declared.before.Step.{Step}
 
--- two values, of a thread that failed and of another, are the same as far as the care k asks: 0 for nothing, 1 for the value modulo 16, 256 + e for no more than that it is not e, 512 + e that it is e or more, 768 + e that it is less than e, 2048 + e that modulo 16 it is not e, any other for the value
+-- location l is in a set of locations: bit l is 1
+abbrev pub Marked : ℕ → ℕ → Type 0
+Marked set l = set / 2 ^ l % 2 ≡ 1
+
+-- the code k allows the value y instead of another: 0 allows any, 256 + e any but e, 512 + e those from e on, 768 + e those below e; no other code allows one
+pub data Coded (k y : ℕ) : Type 0 where
+  free : k ≡ 0 → Coded k y
+  other : 256 ≤ k → k < 512 → (k ≡ 256 + y % 256 → ⊥) → Coded k y
+  above : 512 ≤ k → k < 768 → k ≤ 512 + y → Coded k y
+  below : 768 + y < k → Coded k y
+
+-- two values, x of a thread that failed and y of another, are the same as far as the care k asks: its code allows y, and as an address y is of x's location or of none in its set
 pub data Agrees (k x y : ℕ) : Type 0 where
   same : x ≡ y → Agrees k x y
-  free : k ≡ 0 → Agrees k x y
-  near : k ≡ 1 → address x ≡ address y → Agrees k x y
-  other : 256 ≤ k → k < 512 → (k ≡ 256 + y % 256 → ⊥) → Agrees k x y
-  above : 512 ≤ k → k < 768 → k ≤ 512 + y → Agrees k x y
-  below : k < 2048 → 768 + y < k → Agrees k x y
-  away : 2048 ≤ k → (k ≡ 2048 + address y → ⊥) → Agrees k x y
+  alike : Coded (k % 65536) y → (Marked (k / 65536) (address y) → address x ≡ address y) → Agrees k x y
 
 -- the care for register j; one past the eight counts with its value
 abbrev pub careOf : List ℕ → ℕ → ℕ

@@ -8,6 +8,8 @@ ghost use Rattle.source.specs.Program.{operand, computeMode};
 ghost use Rattle.source.specs.declared.ComputeMode.the-variants.{Add, Subtract, ExclusiveOr};
 ghost use Rattle.machine.specs.Rules.{address, valueOf, combine, branchBy};
 ghost use Rattle.cares.specs.Cares.{Agrees, careOf, Agreeing, AgreeingBut, firstOf, secondOf, noStep, Tells};
+use crate::barred::turned;
+use crate::barring;
 use crate::joined;
 use machine::Thread;
 use source::Instruction;
@@ -46,12 +48,12 @@ impl Step {
 
 // The care for an instruction's first operand, and for its second.
 pub struct Shares {
-    pub first: u16,
-    pub second: u16,
+    pub first: u32,
+    pub second: u32,
 }
 
 // The same care for both.
-fn both(k: u16) -> Shares
+fn both(k: u32) -> Shares
     ensures { λ r. ⌜ (r .first ≡ k) × (r .second ≡ k) ⌝ }
 {
     Shares {
@@ -60,23 +62,24 @@ fn both(k: u16) -> Shares
     }
 }
 
-// Whether any result at z's address is as the care asks: it asks for no more than the address, or that the address is not another one.
-fn by_address(care: u16, z: u8) -> bool
-    ensures { λ r. ⌜ (r ≡ true → (v w : ℕ) → address v ≡ address z → address v ≡ address w → Agrees care v w) ⌝ }
-{
-    if care < 2048 {
-        return care == 1;
-    }
-    care != 2048 + (z % 16) as u16
-}
-
-// A sum modulo 16 rests on its operands modulo 16. That a sum is not e: the operand that was read earlier keeps its value, and the other is
-// not what would be left of e. Any other result rests on the operands' values.
-fn sum_shares(care: u16, x: u8, y: u8, earlier: bool) -> Shares
+// What a sum is as an address: the operand that was read earlier keeps its location, and the other is of none from which that leads into the
+// set. That a sum is not e: the operand that was read earlier keeps its value, and the other is not what would be left of e. Any other result
+// rests on the operands' values.
+fn sum_shares(care: u32, x: u8, y: u8, earlier: bool) -> Shares
     ensures { λ r. ⌜ ((x' y' : ℕ) → Agrees (r .first) x x' → Agrees (r .second) y y' → Agrees care (combine Add x y) (combine Add x' y')) ⌝ }
 {
-    if by_address(care, x % 16 + y % 16) {
-        return both(1);
+    if care % 65536 == 0 {
+        let set = (care / 65536) as u16;
+        if earlier {
+            return Shares {
+                first: barring(65535),
+                second: barring(turned(set, x)),
+            };
+        }
+        return Shares {
+            first: barring(turned(set, y)),
+            second: barring(65535),
+        };
     }
     if care < 256 {
         return both(2);
@@ -85,13 +88,13 @@ fn sum_shares(care: u16, x: u8, y: u8, earlier: bool) -> Shares
         return both(2);
     }
     if earlier {
-        let left = 256 + (care % 256 + 256 - x as u16) % 256;
+        let left = 256 + (care % 256 + 256 - x as u32) % 256;
         return Shares {
             first: 2,
             second: left,
         };
     }
-    let left = 256 + (care % 256 + 256 - y as u16) % 256;
+    let left = 256 + (care % 256 + 256 - y as u32) % 256;
     Shares {
         first: left,
         second: 2,
@@ -99,13 +102,13 @@ fn sum_shares(care: u16, x: u8, y: u8, earlier: bool) -> Shares
 }
 
 // A difference like a sum, but for the second operand: the contract does not say that it is a byte, and past the first operand by more than
-// 256 it leaves 0. So a difference modulo 16 rests on the second operand's value, and so does one that is not 0.
-fn difference_shares(care: u16, x: u8, y: u8, earlier: bool) -> Shares
+// 256 it leaves 0. So a difference as an address rests on the second operand's value, and so does one that is not 0.
+fn difference_shares(care: u32, x: u8, y: u8, earlier: bool) -> Shares
     ensures { λ r. ⌜ ((x' y' : ℕ) → Agrees (r .first) x x' → Agrees (r .second) y y' → Agrees care (combine Subtract x y) (combine Subtract x' y')) ⌝ }
 {
-    if by_address(care, x % 16 + 16 - y % 16) {
+    if care % 65536 == 0 {
         return Shares {
-            first: 1,
+            first: barring(turned((care / 65536) as u16, 16 - y % 16)),
             second: 2,
         };
     }
@@ -116,25 +119,25 @@ fn difference_shares(care: u16, x: u8, y: u8, earlier: bool) -> Shares
         return both(2);
     }
     if earlier && care != 256 {
-        let taken = 256 + (x as u16 + 256 - care % 256) % 256;
+        let taken = 256 + (x as u32 + 256 - care % 256) % 256;
         return Shares {
             first: 2,
             second: taken,
         };
     }
-    let whole = 256 + (care % 256 + y as u16) % 256;
+    let whole = 256 + (care % 256 + y as u32) % 256;
     Shares {
         first: whole,
         second: 2,
     }
 }
 
-// An exclusive or like a sum: what would be left of e is the exclusive or of e and the operand that keeps its value.
-fn exclusive_shares(care: u16, x: u8, y: u8, earlier: bool) -> Shares
+// An exclusive or like a sum, but as an address it rests on the locations of both: what would be left of e is the exclusive or of e and the operand that keeps its value.
+fn exclusive_shares(care: u32, x: u8, y: u8, earlier: bool) -> Shares
     ensures { λ r. ⌜ ((x' y' : ℕ) → Agrees (r .first) x x' → Agrees (r .second) y y' → Agrees care (combine ExclusiveOr x y) (combine ExclusiveOr x' y')) ⌝ }
 {
-    if by_address(care, x ^ y) {
-        return both(1);
+    if care % 65536 == 0 {
+        return both(barring(65535));
     }
     if care < 256 {
         return both(2);
@@ -146,11 +149,11 @@ fn exclusive_shares(care: u16, x: u8, y: u8, earlier: bool) -> Shares
     if earlier {
         return Shares {
             first: 2,
-            second: 256 + (x ^ e) as u16,
+            second: 256 + (x ^ e) as u32,
         };
     }
     Shares {
-        first: 256 + (y ^ e) as u16,
+        first: 256 + (y ^ e) as u32,
         second: 2,
     }
 }
@@ -165,17 +168,17 @@ fn equal_shares(x: u8, y: u8, earlier: bool) -> Shares
     if earlier {
         return Shares {
             first: 2,
-            second: 256 + x as u16,
+            second: 256 + x as u32,
         };
     }
     Shares {
-        first: 256 + y as u16,
+        first: 256 + y as u32,
         second: 2,
     }
 }
 
 // What a computed value rests on, by its mode.
-fn compute_shares(care: u16, m: u8, x: u8, y: u8, earlier: bool) -> Shares
+fn compute_shares(care: u32, m: u8, x: u8, y: u8, earlier: bool) -> Shares
     ensures { λ r. ⌜ ((x' y' : ℕ) → Agrees (r .first) x x' → Agrees (r .second) y y' → Agrees care (combine (computeMode m) x y) (combine (computeMode m) x' y')) ⌝ }
 {
     if care == 0 {
@@ -204,7 +207,7 @@ fn branch_shares(n: u8, x: u8, y: u8, earlier: bool) -> Shares
 }
 
 // The care for register r, which is about to be written: what it held does not count.
-fn take(of: &mut [u16; 8], r: u8) -> u16
+fn take(of: &mut [u32; 8], r: u8) -> u32
     requires { ⌜ length (now of) ≡ 8 ⌝ }
     ensures { λ k. ⌜ length (now (of .exit)) ≡ 8 ⌝ }
     ensures { λ k. ⌜ (k ≡ careOf (now (of .entry)) r) × ((s s' : Thread) → Agreeing (now (of .exit)) s s' → AgreeingBut (now (of .entry)) r s s') ⌝ }
@@ -218,7 +221,7 @@ fn take(of: &mut [u16; 8], r: u8) -> u16
 }
 
 // The operand (k, n) counts too, as the care says.
-fn note(of: &mut [u16; 8], k: u8, n: u8, care: u16)
+fn note(of: &mut [u32; 8], k: u8, n: u8, care: u32)
     requires { ⌜ length (now of) ≡ 8 ⌝ }
     ensures { λ _. ⌜ length (now (of .exit)) ≡ 8 ⌝ }
     ensures { λ _. ⌜ ((s s' : Thread) → Agreeing (now (of .exit)) s s' → Agreeing (now (of .entry)) s s' × Agrees care (valueOf s (operand k n)) (valueOf s' (operand k n))) ⌝ }
@@ -233,7 +236,7 @@ fn note(of: &mut [u16; 8], k: u8, n: u8, care: u16)
 }
 
 // Before a compute.
-pub fn before_compute(of: &mut [u16; 8], e: Step)
+pub fn before_compute(of: &mut [u32; 8], e: Step)
     requires { ⌜ length (now of) ≡ 8 ⌝ }
     ensures { λ _. ⌜ length (now (of .exit)) ≡ 8 ⌝ }
     ensures { λ _. ⌜ ((s s' : Thread) → Tells e s → Agreeing (now (of .exit)) s s'
@@ -248,7 +251,7 @@ pub fn before_compute(of: &mut [u16; 8], e: Step)
 }
 
 // Before a branch.
-pub fn before_branch(of: &mut [u16; 8], e: Step)
+pub fn before_branch(of: &mut [u32; 8], e: Step)
     requires { ⌜ length (now of) ≡ 8 ⌝ }
     ensures { λ _. ⌜ length (now (of .exit)) ≡ 8 ⌝ }
     ensures { λ _. ⌜ ((s s' : Thread) → Tells e s → Agreeing (now (of .exit)) s s'

@@ -1,23 +1,27 @@
 -- What the code relies on that tells what the tries of a load or store rest on, on plain values.
 -- Assumes nothing.
-use mathlib.Core.Path.{_≡_, sym, ap, subst, subst₂, _∙_}
+use mathlib.Core.Path.{_≡_, refl, sym, ap, ap₂, subst, subst₂, _∙_}
 use mathlib.Core.Logic.{_⊎_, inl, inr, ⊎-elim}
 use mathlib.Core.Bool.{Bool, true, false, not, _&&_}
 use mathlib.Core.List.{List}
-use Prim.Native.Nat.{ℕ, _+_, _-_, _*_, _≤_, _<_}
-use native.Mathlib.Decide.{decLt}
+use Prim.Native.Nat.{ℕ, _+_, _*_, _/_, _%_, _^_, _≤_, _<_}
+use native.Mathlib.Nat.{add-comm, mod-lt}
+use native.Mathlib.Decide.{ℕ-discrete, decLt}
 use native.Mathlib.Omega.{arith}
-use lib.Dec.{T, eqb}
+use lib.Dec.{T, eqb, lit<}
 use borrow.Author.Tests.{eqb-true, not-false}
 use Rattle.source.proofs.Tests.{and-both, eq→eqb, is-false}
 use Rattle.machine.specs.State.{messageAt, has}
 use Rattle.machine.specs.Rules.{valueOf, address}
+use Rattle.machine.proofs.Effects.{loadLocation}
 use Rattle.machine.proofs.Sets.{has-positive}
 use Rattle.times.specs.Times.{After}
-use Rattle.cares.specs.Cares.{Agrees, Agreeing}
-use Rattle.cares.proofs.Agreeing.{same-address, not-that}
+use Rattle.cares.specs.Cares.{Marked, Agrees, Agreeing}
+use Rattle.cares.proofs.Agreeing.{same-address, not-that, not-barred}
 use Rattle.certify.specs.Below.{Operand, LoadMode, StoreMode, Instr, Compute, Load, Store, Branch, Fence, Message, Memory, Thread}
-use Rattle.certify.specs.Asks.{Sought, OtherValues, Seeks, Unsought, Elsewhere, PlaceCare, StoresSame, Asks, FillsSame}
+use Rattle.certify.specs.Asks.{Sought, OtherValues, Unsought, Elsewhere, StoresSame, LoadsSame, StoreAsks, Asks}
+use Rattle.certify.specs.Vacant.{Vacant}
+use Rattle.certify.proofs.Lower.{near-sum}
 
 -- ---- the other values of the promises to a location, one by one
 module _ (m : Memory) (p l v : ℕ) where
@@ -54,16 +58,62 @@ module _ (m : Memory) (p l v : ℕ) where
   pub values-all : (u r : ℕ) → OtherValues m p l v u r → m .count < u → OtherValues m p l v 17 r
   values-all u r h over y j a out lo jm = h y j a out (omega arith) jm
 
+-- ---- what a load rests on
+-- an operand keeps its location, and the other, if it is of one from which that leads into the set, too: the sum does, or it is not in the set
+same-or-out : (set turn x y x' y' : ℕ) → ((v : ℕ) → Marked set (address (x + v)) → Marked turn (address v)) → Agrees (65536 * 65535) x x' → Agrees (65536 * turn) y y'
+    → (address (x + y) ≡ address (x' + y')) ⊎ (Marked set (address (x' + y')) → ⊥)
+same-or-out set turn x y x' y' turns p q = elim (ℕ-discrete (set / 2 ^ address (x' + y') % 2) 1) [
+  | yes there ↦ inl (near-sum x x' y y' (same-address p) (not-barred turn q (turns y' (subst (Marked set) (near-sum x' x y' y' (sym (same-address p)) refl) there))))
+  | no out ↦ inr out
+]
+
+-- x and y are the values of the operands, and l is the location of their sum; if there is a location out of the set, tries are apart, and neither it nor l has a message
+module _ (m : Memory) (s : Thread) (a b : Operand) (apart : Bool) (x y l set turn : ℕ) (xe : x ≡ valueOf s a) (ye : y ≡ valueOf s b) (le : l ≡ address (x + y))
+    (free : (j : ℕ) → j < 16 → (Marked set j → ⊥) → (apart ≡ true) × (Vacant m l × Vacant m j)) (cares : List ℕ) where
+  either-loads : (s' : Thread) → (loadLocation s a b ≡ loadLocation s' a b) ⊎ (Marked set (loadLocation s' a b) → ⊥) → LoadsSame apart m s s' a b
+  either-loads s' e =
+      ⊎-elim inl (λ out. let z = free (loadLocation s' a b) (mod-lt _ (lit< tt)) out in inr (z .0, subst (Vacant m) (le ∙ ap₂ (λ (i j : ℕ). address (i + j)) xe ye) (z .1 .0), z .1 .1)) e
+
+  -- the first operand keeps its location
+  pub first-kept : ((v : ℕ) → Marked set (address (x + v)) → Marked turn (address v)) → (k k' : ℕ) → k ≡ 65536 * 65535 → k' ≡ 65536 * turn
+      → ((s' : Thread) → Agreeing cares s s' → Agrees k (valueOf s a) (valueOf s' a) × Agrees k' (valueOf s b) (valueOf s' b)) → (s' : Thread) → Agreeing cares s s' → LoadsSame apart m s s' a b
+  first-kept turns k k' ke ke' f s' g =
+      either-loads s' (same-or-out set turn _ _ _ _ (subst (λ (i : ℕ). (v : ℕ) → Marked set (address (i + v)) → Marked turn (address v)) xe turns)
+      (subst (λ (i : ℕ). Agrees i (valueOf s a) (valueOf s' a)) ke (f s' g .0)) (subst (λ (i : ℕ). Agrees i (valueOf s b) (valueOf s' b)) ke' (f s' g .1)))
+
+  -- the second
+  pub second-kept : ((v : ℕ) → Marked set (address (y + v)) → Marked turn (address v)) → (k k' : ℕ) → k ≡ 65536 * turn → k' ≡ 65536 * 65535
+      → ((s' : Thread) → Agreeing cares s s' → Agrees k (valueOf s a) (valueOf s' a) × Agrees k' (valueOf s b) (valueOf s' b)) → (s' : Thread) → Agreeing cares s s' → LoadsSame apart m s s' a b
+  second-kept turns k k' ke ke' f s' g =
+      either-loads s' (subst₂ (λ (i j : ℕ). (address i ≡ address j) ⊎ (Marked set (address j) → ⊥)) (add-comm (valueOf s b) (valueOf s a)) (add-comm (valueOf s' b) (valueOf s' a))
+      (same-or-out set turn _ _ _ _ (subst (λ (i : ℕ). (v : ℕ) → Marked set (address (i + v)) → Marked turn (address v)) ye turns)
+      (subst (λ (i : ℕ). Agrees i (valueOf s b) (valueOf s' b)) ke' (f s' g .1)) (subst (λ (i : ℕ). Agrees i (valueOf s a) (valueOf s' a)) ke (f s' g .0))))
+
 -- ---- what a store rests on
-module _ (m : Memory) (s : Thread) (q : Sought) (a d : Operand) (s' : Thread) where
-  -- on its location, or that it is not one with a promise or a number that is sought; and on that its data is not the value of another promise to it
-  pub stores-kept : m .count ≤ 16 → (l v e k : ℕ) → l ≡ address (valueOf s a) → v ≡ valueOf s d → PlaceCare m (s .promises) q l e → OtherValues m (s .promises) l v 17 k
-      → Agrees e (valueOf s a) (valueOf s' a) → Agrees k (valueOf s d) (valueOf s' d) → StoresSame m s a d s' ⊎ Elsewhere m (s .promises) q (address (valueOf s' a))
-  stores-kept room l v e k le ve places others at o =
-      ⊎-elim (λ same. inl (record {
-        place = same;
-        data-kept = λ u out um lu vu. sym ve ∙ others (valueOf s' d) u (subst (λ (x : ℕ). Agrees k x (valueOf s' d)) (sym ve) o) out (omega arith) um (lu ∙ sym le) vu;
-      })) (λ there. inr there) (places .apart (valueOf s a) (valueOf s' a) (sym le) at)
+-- x and v are the values of the operands, and l is the location; one out of the set has neither a promise nor, if the hole is outstanding, a number that is sought
+module _ (m : Memory) (s : Thread) (a d : Operand) (q : Sought) (room : m .count ≤ 16) (x l v set k k' : ℕ) (xe : x ≡ valueOf s a) (le : l ≡ address x) (ve : v ≡ valueOf s d)
+    (free : (j : ℕ) → j < 16 → (Marked set j → ⊥) → Elsewhere m (s .promises) q j) (ke : k ≡ 65536 * set) (others : OtherValues m (s .promises) l v 17 k') (cares : List ℕ)
+    (keeps : (s' : Thread) → Agreeing cares s s' → Agrees k (valueOf s a) (valueOf s' a) × Agrees k' (valueOf s d) (valueOf s' d)) where
+  at-place : l ≡ address (valueOf s a)
+  at-place = le ∙ ap address xe
+
+  -- on its location, or that it is not one of the set; and on that its data is not the value of another promise to it
+  stores-kept : (s' : Thread) → Agreeing cares s s' → StoresSame m s a d s' ⊎ Elsewhere m (s .promises) q (address (valueOf s' a))
+  stores-kept s' g = elim (ℕ-discrete (set / 2 ^ address (valueOf s' a) % 2) 1) [
+    | yes there ↦ inl (record {
+      place = not-barred set (subst (λ (i : ℕ). Agrees i (valueOf s a) (valueOf s' a)) ke (keeps s' g .0)) there;
+      data-kept = λ u out um lu vu. sym ve ∙ others (valueOf s' d) u (subst (λ (i : ℕ). Agrees k' i (valueOf s' d)) (sym ve) (keeps s' g .1)) out (omega arith) um (lu ∙ sym at-place) vu;
+    })
+    | no out ↦ inr (free (address (valueOf s' a)) (mod-lt _ (lit< tt)) out)
+  ]
+
+  -- the hole is not outstanding
+  pub keeps-hole : has (s .promises) (q .hole) ≡ false → StoreAsks m s a d q cares
+  keeps-hole n = record { store = stores-kept; number = λ out. absurd (subst T n out) }
+
+  -- it may be: on whether its number is sought
+  pub fills-hole : (n : ℕ) → Unsought q l v n → ((s' : Thread) → Agreeing cares s s' → Agrees n (valueOf s d) (valueOf s' d)) → StoreAsks m s a d q cares
+  fills-hole n u f = record { store = stores-kept; number = λ out. (n, (subst₂ (λ (i j : ℕ). Unsought q i j n) at-place ve u, f)) }
 
 -- ---- the instructions
 -- the instruction is a load or store
@@ -86,49 +136,23 @@ store-same k k' a a' d d' e = (cc, cc)
 pub load-not-store : (k : LoadMode) (k' : StoreMode) (r : ℕ) (a a' b d' : Operand) → Load k r a b ≡ Store k' a' d' → ⊥
 load-not-store k k' r a a' b d' e = let z : _≡_ {A = ℕ} 0 1 = cc in omega arith
 
-module _ (x : Instr) (m : Memory) (s : Thread) (q : Sought) (cares : List ℕ) where
-  -- a load rests on its location
-  pub load-asks : (k : LoadMode) (r : ℕ) (a b : Operand) → x ≡ Load k r a b
-      → ((s' : Thread) → Agreeing cares s s' → Agrees 1 (valueOf s a) (valueOf s' a) × Agrees 1 (valueOf s b) (valueOf s' b)) → Asks x m s q cares × FillsSame x s q cares
-  load-asks k r a b is f = (
-    record {
-      load = λ k' r' a' b' is' s' g. let e = load-same k k' r r' a a' b b' (sym is ∙ is') in (rw (sym (e .1)) (same-address (f s' g .0)), rw (sym (e .2)) (same-address (f s' g .1)));
-      store = λ k' a' d' is' s' g. absurd (load-not-store k k' r a a' b d' (sym is ∙ is'));
-    },
-    record {
-      number = λ k' a' d' is' out. absurd (load-not-store k k' r a a' b d' (sym is ∙ is'));
-      place = λ k' a' d' is' out byte seeks s' g. absurd (load-not-store k k' r a a' b d' (sym is ∙ is'));
-    },
-  )
+module _ (x : Instr) (m : Memory) (s : Thread) (q : Sought) (apart : Bool) (cares : List ℕ) where
+  -- the instruction is a load
+  pub load-asks : (k : LoadMode) (r : ℕ) (a b : Operand) → x ≡ Load k r a b → ((s' : Thread) → Agreeing cares s s' → LoadsSame apart m s s' a b) → Asks x m s q apart cares
+  load-asks k r a b is f =
+      record {
+        load = λ k' r' a' b' is' s' g. let e = load-same k k' r r' a a' b b' (sym is ∙ is') in subst₂ (λ (o o' : Operand). LoadsSame apart m s s' o o') (e .1) (e .2) (f s' g);
+        store = λ k' a' d' is'. absurd (load-not-store k k' r a a' b d' (sym is ∙ is'));
+      }
 
-  -- a store rests on what makes it the same or one elsewhere, and its number, where the hole is outstanding, what it is
-  pub store-asks : (k : StoreMode) (a d : Operand) → x ≡ Store k a d → (l e : ℕ) → l ≡ address (valueOf s a) → PlaceCare m (s .promises) q l e → ((s' : Thread) → Agreeing cares s s' → Agrees e (valueOf s a) (valueOf s' a))
-      → ((s' : Thread) → Agreeing cares s s' → StoresSame m s a d s' ⊎ Elsewhere m (s .promises) q (address (valueOf s' a)))
-      → (T (has (s .promises) (q .hole)) → (n : ℕ) × (Unsought q (address (valueOf s a)) (valueOf s d) n × ((s' : Thread) → Agreeing cares s s' → Agrees n (valueOf s d) (valueOf s' d))))
-      → Asks x m s q cares × FillsSame x s q cares
-  store-asks k a d is l e le places at f fills = (
-    record {
-      load = λ k' r' a' b' is' s' g. absurd (load-not-store k' k r' a' a b' d (sym is' ∙ is));
-      store = λ k' a' d' is' s' g. let z = store-same k k' a a' d d' (sym is ∙ is') in subst₂ (λ (o o' : Operand). StoresSame m s o o' s' ⊎ Elsewhere m (s .promises) q (address (valueOf s' o))) (z .0) (z .1) (f s' g);
-    },
-    record {
-      number = λ k' a' d' is' out. let z = store-same k k' a a' d d' (sym is ∙ is') in
-          subst₂ (λ (o o' : Operand). (n : ℕ) × (Unsought q (address (valueOf s o)) (valueOf s o') n × ((s' : Thread) → Agreeing cares s s' → Agrees n (valueOf s o') (valueOf s' o')))) (z .0) (z .1) (fills out);
-      place = λ k' a' d' is' out byte seeks s' g. let z = store-same k k' a a' d d' (sym is ∙ is') in
-          subst (λ (o : Operand). address (valueOf s o) ≡ address (valueOf s' o)) (z .0)
-          (places .here out (valueOf s d') byte (subst (λ (n : ℕ). Seeks q (256 * n + valueOf s d')) (sym (le ∙ ap (λ (o : Operand). address (valueOf s o)) (z .0))) seeks) (valueOf s a) (valueOf s' a) (sym le) (at s' g));
-    },
-  )
+  -- it is a store
+  pub store-asks : (k : StoreMode) (a d : Operand) → x ≡ Store k a d → StoreAsks m s a d q cares → Asks x m s q apart cares
+  store-asks k a d is f =
+      record {
+        load = λ k' r' a' b' is'. absurd (load-not-store k' k r' a' a b' d (sym is' ∙ is));
+        store = λ k' a' d' is'. let z = store-same k k' a a' d d' (sym is ∙ is') in subst₂ (λ (o o' : Operand). StoreAsks m s o o' q cares) (z .0) (z .1) f;
+      }
 
   -- what is neither rests on nothing
-  pub other-asks : is-tried x ≡ false → Asks x m s q cares × FillsSame x s q cares
-  other-asks n = (
-    record {
-      load = λ k r a b is s' g. absurd (subst T (sym (ap is-tried is) ∙ n) tt);
-      store = λ k a d is s' g. absurd (subst T (sym (ap is-tried is) ∙ n) tt);
-    },
-    record {
-      number = λ k a d is out. absurd (subst T (sym (ap is-tried is) ∙ n) tt);
-      place = λ k a d is out byte seeks s' g. absurd (subst T (sym (ap is-tried is) ∙ n) tt);
-    },
-  )
+  pub other-asks : is-tried x ≡ false → Asks x m s q apart cares
+  other-asks n = record { load = λ k r a b is. absurd (subst T (sym (ap is-tried is) ∙ n) tt); store = λ k a d is. absurd (subst T (sym (ap is-tried is) ∙ n) tt) }

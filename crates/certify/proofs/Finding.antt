@@ -1,21 +1,24 @@
 -- What is found, and what a failure rests on: cares that ask more, and threads in which an instruction can do no more than in the one that failed.
 -- Assumes nothing.
 use mathlib.Core.Path.{_≡_, refl, sym, subst, _∙_}
-use mathlib.Core.Logic.{_⊎_, ⊎-elim}
+use mathlib.Core.Logic.{_⊎_, inl, inr, ⊎-elim}
+use mathlib.Core.Bool.{Bool, true}
 use mathlib.Core.List.{List}
 use mathlib.Core.Option.{none, some}
 use Prim.Native.Nat.{ℕ}
 use native.Mathlib.Omega.{arith}
 use Rattle.machine.specs.Rules.{refused, next, valueOf, address, execute}
+use Rattle.machine.proofs.Effects.{loadLocation}
 use Rattle.cares.specs.Cares.{Covers}
 use Rattle.cares.specs.declared.Cares.{Cares}
 use Rattle.certify.specs.Below.{Code, Operand, StoreMode, Instr, Compute, Load, Store, Branch, Fence, Memory, Thread}
-use Rattle.certify.specs.Asks.{Met, Sought, Unmet, Elsewhere, StoresSame, Asks, Likewise}
+use Rattle.certify.specs.Asks.{Met, Sought, Unmet, Elsewhere, StoresSame, LoadsSame, Asks, Likewise}
 use Rattle.certify.specs.Runs.{Comes, done, by, own}
 use Rattle.certify.specs.Sought.{same, Found}
 use Rattle.certify.specs.Straight.{plainly}
 use Rattle.certify.specs.Under.{Under, Rests}
-use Rattle.certify.proofs.Resting.{load-too-rests, store-too, store-at}
+use Rattle.certify.specs.Vacant.{Vacant}
+use Rattle.certify.proofs.Resting.{load-too-rests, vacant-does, vacant-zero, store-too, store-at}
 
 -- ---- cares that ask more
 pub covers-self : (k : List ℕ) → Covers k k
@@ -45,18 +48,29 @@ stores-same {m} {s} {s'} how a d under either t y' e =
     ⊎-elim (λ here. here) (λ there. let at = store-at m how a d s s' under t y' e in absurd (there .unpromised t (at .0) (at .1) (at .2))) either
 
 -- and does likewise
-pub asked-likewise : (x : Instr) (m : Memory) (s s' : Thread) (q : Sought) (k : List ℕ) → Asks x m s q k → Rests k s s' → (t : ℕ) (y' : Thread) → execute x m t s' ≡ next y' → Likewise x m s s'
-asked-likewise x m s s' q k asked rests t y' e =
+pub asked-likewise : (x : Instr) (m : Memory) (s s' : Thread) (q : Sought) (apart : Bool) (k : List ℕ) → Asks x m s q apart k → Rests k s s' → (t : ℕ) (y' : Thread) → execute x m t s' ≡ next y' → Likewise apart x m s s'
+asked-likewise x m s s' q apart k asked rests t y' e =
     record {
       load = λ how r a b is. asked .load how r a b is s' (rests .agreeing);
-      store = λ how a d is. stores-same {q = q} how a d (rests .under) (asked .store how a d is s' (rests .agreeing)) t y' (subst (λ (o : Instr). execute o m t s' ≡ next y') is e);
+      store = λ how a d is. stores-same {q = q} how a d (rests .under) (asked .store how a d is .store s' (rests .agreeing)) t y' (subst (λ (o : Instr). execute o m t s' ≡ next y') is e);
     }
 
+-- fewer threads do likewise where tries are not apart
+pub likewise-less : {apart apart' : Bool} {x : Instr} {m : Memory} {s s' : Thread} → (apart ≡ true → apart' ≡ true) → Likewise apart x m s s' → Likewise apart' x m s s'
+likewise-less narrower like = record { load = λ how r a b is. ⊎-elim inl (λ z. inr (narrower (z .0), z .1, z .2)) (like .load how r a b is); store = like .store }
+
+-- a load from one of two such locations, of which the one has no message, is from one without
+pub loads-vacant : (apart : Bool) (m : Memory) (s s' : Thread) (a b : Operand) → LoadsSame apart m s s' a b → Vacant m (loadLocation s a b) → Vacant m (loadLocation s' a b)
+loads-vacant apart m s s' a b either vacant = ⊎-elim (λ e. subst (Vacant m) e vacant) (λ z. z .2) either
+
 -- what a thread does that does likewise, the one that failed can do
-pub does-too : (x : Instr) (m : Memory) (s s' : Thread) → plainly x s ≡ none → Under s s' → Likewise x m s s' → (t : ℕ) (y' : Thread) → execute x m t s' ≡ next y' → (y : Thread) × (execute x m t s ≡ next y)
+pub does-too : {apart : Bool} (x : Instr) (m : Memory) (s s' : Thread) → plainly x s ≡ none → Under s s' → Likewise apart x m s s' → (t : ℕ) (y' : Thread) → execute x m t s' ≡ next y' → (y : Thread) × (execute x m t s ≡ next y)
 unfolding plainly
 does-too (Compute how r a b) m s s' halting under like t y' e = absurd (no-thread-left halting)
-does-too (Load how r a b) m s s' halting under like t y' e = let near = like .load how r a b refl in load-too-rests m how r a b s s' under (near .0) (near .1) t y' e
+does-too (Load how r a b) m s s' halting under like t y' e =
+    ⊎-elim (λ same-location. load-too-rests m how r a b s s' under same-location t y' e)
+    (λ z. let now = vacant-zero m how r a b s' (z .2) t y' e in subst (λ (u : ℕ). (y : Thread) × (execute (Load how r a b) m u s ≡ next y)) (sym now) (vacant-does m how r a b s (z .1)))
+    (like .load how r a b refl)
 does-too (Store how a d) m s s' halting under like t y' e =
     let here = like .store how a d refl in
     let at = store-at m how a d s s' under t y' e in

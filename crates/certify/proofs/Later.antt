@@ -73,5 +73,5 @@ pub later-lost : (c : Code) (i : ℕ) (m : Memory) (s : Thread) (k : LoadMode) (
     → (u : ℕ) (y' : Thread) → NoBetter m s (loadLocation s a b) t (careOf (then .cares .of) r) u → execute (Load k r a b) m u s ≡ next y' → T (certified c i m y') → ⊥
 later-lost c i m s k r a b t y e then found lost u y' worse e' q =
     found .barren y'
-    (load-rests m k r a b s s (under-self s) refl refl (then .cares .of) (λ j n. same refl) t u (worse .alike) (worse .low) y y' e e')
+    (load-rests m k r a b s s (under-self s) refl (then .cares .of) (λ j n. same refl) t u (worse .alike) (worse .low) y y' e e')
     0 (zero-sought (found .better) (omega arith, omega arith, λ n. omega arith) lost) (certified-meets c i m y' q)

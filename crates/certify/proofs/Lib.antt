@@ -22,5 +22,7 @@ pub mod Stores
 pub mod Missing
 pub mod Owning
 pub mod Reaching
-pub mod Places
+pub mod Placing
 pub mod Later
+pub mod Vacant
+pub mod Idling

@@ -1,27 +1,28 @@
 -- Tries of a load or store at times in turn: what is known after each.
 -- Assumes nothing.
-use mathlib.Core.Path.{_≡_, refl, sym, ap, subst, _∙_}
-use mathlib.Core.Logic.{inl, ⊎-elim}
+use mathlib.Core.Path.{_≡_, refl, sym, ap, subst, subst₂, _∙_}
+use mathlib.Core.Logic.{_⊎_, inl, inr, ⊎-elim}
+use mathlib.Core.Bool.{Bool, true, false}
 use mathlib.Core.List.{List}
 use mathlib.Core.Option.{none, some}
-use Prim.Native.Nat.{ℕ, _+_, _≤_, _<_}
+use Prim.Native.Nat.{ℕ, _<_}
 use native.Mathlib.Nat.{le-refl}
 use native.Mathlib.Decide.{ℕ-discrete, decLt}
 use native.Mathlib.Omega.{arith}
 use lib.Count.{ones}
+use lib.Dec.{T}
 use lib.ListN.{length, set, replicate, List·getD-eq-default, length-set, length-replicate, getD-replicate}
 use lib.Seq.{getD-set-same, getD-set-other}
 use Rattle.source.specs.Program.{instrAt}
 use Rattle.source.specs.Counts.{storesFrom}
-use Rattle.machine.specs.Rules.{next, readValue, execute}
+use Rattle.machine.specs.Rules.{next, readValue, readView, execute}
 use Rattle.machine.specs.Answers.{ruled}
 use Rattle.machine.specs.declared.RuleAnswer.the-variants.{Refused}
 use Rattle.machine.specs.declared.Ruled.{Ruled}
 use Rattle.machine.proofs.Cases.{ruled-refused}
-use Rattle.machine.proofs.Effects.{effect, effect-time}
+use Rattle.machine.proofs.Effects.{loadLocation, effect, effect-time}
 use Rattle.cares.specs.Cares as cares
 use Rattle.cares.specs.Cares.{Agrees, careOf, Agreeing, AgreeingBut, Covers}
-use Rattle.cares.specs.declared.Cares.{Cares}
 use Rattle.certify.specs.Below.{Code, Operand, LoadMode, StoreMode, Instr, Compute, Load, Store, Branch, Fence, Memory, Thread}
 use Rattle.certify.specs.Answers.{Trying, Earliest, Following}
 use Rattle.certify.specs.Asks.{Met, Unmet, Likewise}
@@ -30,13 +31,15 @@ use Rattle.certify.specs.Sought.{Sought, Tried, Reached, Better, same, E
 use Rattle.certify.specs.Straight.{plainly}
 use Rattle.certify.specs.Tries.{countedAt, Vain}
 use Rattle.certify.specs.Under.{Rests}
+use Rattle.certify.specs.Vacant.{Vacant, cohering, Idles}
 use Rattle.certify.proofs.Fit.{comes-fit}
 use Rattle.certify.proofs.Numbers.{narrows, better-as, emptied-better, emptied-now}
 use Rattle.certify.proofs.Asking.{load-same, load-not-store}
-use Rattle.certify.proofs.Resting.{load-rests, store-rests}
+use Rattle.certify.proofs.Resting.{load-rests, vacant-zero, idle-rests, store-rests}
 use Rattle.certify.proofs.Filling.{only-zero}
-use Rattle.certify.proofs.Finding.{covers-self, rests-less, other, no-thread-left, does-too}
+use Rattle.certify.proofs.Finding.{covers-self, rests-less, other, no-thread-left, likewise-less, loads-vacant, does-too}
 use Rattle.certify.proofs.Stores.{aim-fits}
+use Rattle.certify.proofs.Vacant.{idle-lifts}
 
 -- ---- the times noted
 -- none at first
@@ -52,7 +55,7 @@ noted-at counted t v u tried e = elim (decLt t (length counted)) [
 
 module _ (c : Code) (i : ℕ) (m : Memory) (s : Thread) (x : Instr) (q : Sought) where
   -- no time was tried yet
-  pub knows-none : plainly x s ≡ none → (known : Reached) (p : Tried) → p ≡ record { met = known .met; tries = 0; cares = known .cares; counted = replicate 17 3 } → Knows c i m s x q p
+  pub knows-none : plainly x s ≡ none → (known : Reached) (p : Tried) → p ≡ record { met = known .met; tries = 0; cares = known .cares; counted = replicate 17 3; apart = true } → Knows c i m s x q p
   knows-none halting known p e = record { halting = halting; failed = λ how r a b is u tried. absurd (tried (ap (λ (z : Tried). countedAt (z .counted) u) e ∙ untried u)) }
 
   pub missed-none : (p : Tried) (t : ℕ) → Knows c i m s x q p → Earliest x m s t → Missed c i m s x q p 0 t
@@ -65,7 +68,7 @@ module _ (c : Code) (i : ℕ) (m : Memory) (s : Thread) (x : Instr) (q : Sought)
       record {
         knows = w .knows;
         missed = λ u from l s' y rests like e j sought z. elim (decLt u t) [
-          | yes before ↦ h .missed u from before s' y (rests-less (w .covers) rests) like e j (narrows (w .better) j sought) z
+          | yes before ↦ h .missed u from before s' y (rests-less (w .covers) rests) (likewise-less (w .narrower) like) e j (narrows (w .better) j sought) z
           | no after ↦ elim (decLt t u) [
             | yes late ↦ (let mine = does-too x m s s' (w .knows .halting) (rests .under) like u y e in on .between u (mine .0) late l (mine .1))
             | no neither ↦ (let now : u ≡ t = omega arith in w .fails s' y rests like (subst (λ (v : ℕ). execute x m v s' ≡ next y) now e) j sought z)
@@ -76,7 +79,7 @@ module _ (c : Code) (i : ℕ) (m : Memory) (s : Thread) (x : Instr) (q : Sought)
   module _ (p : Tried) (t : ℕ) (known : Knows c i m s x q p) where
     -- the try leaves what is known as it is
     unchanged : Fails c i m s x q p t → Went c i m s x q p t p
-    unchanged fails = record { better = same; covers = covers-self (p .cares .of); knows = known; fails = fails }
+    unchanged fails = record { better = same; covers = covers-self (p .cares .of); narrower = λ z. z; knows = known; fails = fails }
 
     -- it cannot be executed at t
     pub went-refused : (u : Ruled) → u ≡ ruled s (execute x m t s) → (n : ℕ) → u .answer ≡ Refused n → Went c i m s x q p t p
@@ -108,8 +111,14 @@ module _ (c : Code) (i : ℕ) (m : Memory) (s : Thread) (x : Instr) (q : Sought)
             let f = known .failed (v .mode) (v .register) (v .a) (v .b) (v .is-load) u (d .tried) in
             let near = like .load (v .mode) (v .register) (v .a) (v .b) (v .is-load) in
             let written = subst (λ (k : ℕ). Agrees k (readValue m u) (readValue m t)) (sym (f .noted)) (d .alike) in
+            let no-time : Vacant m (loadLocation s (v .a) (v .b)) → ⊥ = λ vacant.
+            (let now = vacant-zero m (v .mode) (v .register) (v .a) (v .b) s' (loads-vacant (p .apart) m s s' (v .a) (v .b) near vacant) t y (load t s' y e) in
+            let before = d .before in
+            omega arith) in
+            let same-location : loadLocation s (v .a) (v .b) ≡ loadLocation s' (v .a) (v .b) = ⊎-elim (λ here. here) (λ z. absurd (no-time (z .1))) near in
+            let does : execute x m u s ≡ next (f .after) = ⊎-elim (λ here. here) (λ vacant. absurd (no-time vacant)) (f .does) in
             f .barren y
-            (load-rests m (v .mode) (v .register) (v .a) (v .b) s s' (rests .under) (near .0) (near .1) (f .cares) (f .among s' (rests .agreeing)) u t written (d .low) (f .after) y (load u s (f .after) (f .does)) (load t s' y e))
+            (load-rests m (v .mode) (v .register) (v .a) (v .b) s s' (rests .under) same-location (f .cares) (f .among s' (rests .agreeing)) u t written (d .low) (f .after) y (load u s (f .after) does) (load t s' y e))
             j sought w
 
     -- nothing can come of it
@@ -117,8 +126,8 @@ module _ (c : Code) (i : ℕ) (m : Memory) (s : Thread) (x : Instr) (q : Sought)
     went-hopeless w h = ⊎-elim in-vain (crowded w) h
 
     -- what is known of a time tried before, where no more is sought
-    still : (r : Tried) {P : ℕ → Type 0} → Better (q .from) P (p .met) (r .met) → Covers (r .cares .of) (p .cares .of) → (j u : ℕ) → countedAt (r .counted) u ≡ countedAt (p .counted) u → Failed c i m s x q p j u → Failed c i m s x q r j u
-    still r better covers j u told f =
+    still : (r : Tried) {P : ℕ → Type 0} → Better (q .from) P (p .met) (r .met) → Covers (r .cares .of) (p .cares .of) → (j u : ℕ) → countedAt (r .counted) u ≡ countedAt (p .counted) u → (a b : Operand) → Failed c i m s x q p j a b u → Failed c i m s x q r j a b u
+    still r better covers j u told a b f =
         record {
           after = f .after;
           does = f .does;
@@ -130,88 +139,112 @@ module _ (c : Code) (i : ℕ) (m : Memory) (s : Thread) (x : Instr) (q : Sought)
 
     -- it comes to an empty promise set, which is sought
     pub went-found : (y : Thread) → execute x m t s ≡ next y → (q .hole ≡ 0) × (y .promises ≡ 0) → (now : Met) → Emptied (record { hole = q .hole; from = q .from; met = p .met }) now
-        → Went c i m s x q p t (record { met = now; tries = p .tries; cares = p .cares; counted = p .counted })
+        → Went c i m s x q p t (record { met = now; tries = p .tries; cares = p .cares; counted = p .counted; apart = p .apart })
     went-found y does empty now e =
         let better : Better (q .from) (Through c i m s x t (q .hole)) (p .met) now =
         emptied-better (record { hole = q .hole; from = q .from; met = p .met }) now e (y, does, done (inl (empty .0, refl, empty .1))) in
         record {
           better = better;
           covers = covers-self (p .cares .of);
+          narrower = λ o. o;
           knows = record {
             halting = known .halting;
-            failed = λ how r a b is u tried. still (record { met = now; tries = p .tries; cares = p .cares; counted = p .counted }) better (covers-self (p .cares .of)) r u refl (known .failed how r a b is u tried);
+            failed = λ how r a b is u tried. still (record { met = now; tries = p .tries; cares = p .cares; counted = p .counted; apart = p .apart }) better (covers-self (p .cares .of)) r u refl a b (known .failed how r a b is u tried);
           };
           fails = λ s' v rests like d j sought z.
               emptied-now (record { hole = q .hole; from = q .from; met = p .met }) now e (subst (Unmet (q .from) now) (only-zero c i (q .hole) j m v (empty .0) z) sought);
         }
 
-    -- it goes on from there
-    module _ (y : Thread) (does : execute x m t s ≡ next y) (sub : Reached) (found : Found (q .from) (p .met) (λ v k. Meets c i m v (q .hole) k) y sub) where
-      goes-on : (r : Tried) → r .met ≡ sub .met → Covers (r .cares .of) (p .cares .of) → ((s' v : Thread) → Rests (r .cares .of) s s' → Likewise x m s s' → execute x m t s' ≡ next v → Rests (sub .cares .of) y v)
-          → (Better (q .from) (Meets c i m y (q .hole)) (p .met) (r .met) → (how : LoadMode) (j : ℕ) (a b : Operand) → x ≡ Load how j a b → (u : ℕ) → (countedAt (r .counted) u ≡ 3 → ⊥) → Failed c i m s x q r j u) → Went c i m s x q p t r
-      goes-on r e covers follows failed =
-          let better : Better (q .from) (Meets c i m y (q .hole)) (p .met) (r .met) = subst (Better (q .from) (Meets c i m y (q .hole)) (p .met)) (sym e) (found .better) in
+    -- it goes on from y, or from a thread z that comes to no more
+    module _ (y : Thread) (does : execute x m t s ≡ next y) (z : Thread) (lifts : (k : ℕ) → Meets c i m z (q .hole) k → Meets c i m y (q .hole) k)
+        (sub : Reached) (found : Found (q .from) (p .met) (λ v k. Meets c i m v (q .hole) k) z sub) (apart : Bool) where
+      goes-on : (r : Tried) → Noted x t p sub apart r → r .met ≡ sub .met → ((s' v : Thread) → Rests (r .cares .of) s s' → Likewise (r .apart) x m s s' → execute x m t s' ≡ next v → Rests (sub .cares .of) z v)
+          → (Better (q .from) (Meets c i m z (q .hole)) (p .met) (r .met) → (how : LoadMode) (j : ℕ) (a b : Operand) → x ≡ Load how j a b → (u : ℕ) → (countedAt (r .counted) u ≡ 3 → ⊥) → Failed c i m s x q r j a b u) → Went c i m s x q p t r
+      goes-on r n e follows failed =
+          let better : Better (q .from) (Meets c i m z (q .hole)) (p .met) (r .met) = subst (Better (q .from) (Meets c i m z (q .hole)) (p .met)) (sym e) (found .better) in
           record {
-            better = better-as (λ k w. (y, does, w)) better;
-            covers = covers;
+            better = better-as (λ k w. (y, does, lifts k w)) better;
+            covers = n .covers;
+            narrower = n .narrower;
             knows = record { halting = known .halting; failed = failed better };
-            fails = λ s' v rests like d j sought z. found .barren v (follows s' v rests like d) j (subst (λ (o : Met). Unmet (q .from) o j) e sought) z;
+            fails = λ s' v rests like d j sought w. found .barren v (follows s' v rests like d) j (subst (λ (o : Met). Unmet (q .from) o j) e sought) w;
           }
 
-      pub went-load : (how : LoadMode) (j : ℕ) (a b : Operand) → x ≡ Load how j a b → (r : Tried) → Noted x t p sub r → Went c i m s x q p t r
-      went-load how j a b is r n = goes-on r (z .0) (n .covers) follows failed
-        where
-          z : (r .met ≡ sub .met) × (r .counted ≡ set (p .counted) t (careOf (sub .cares .of) j)) × ((v v' : Thread) → Agreeing (r .cares .of) v v' → AgreeingBut (sub .cares .of) j v v')
-          z = n .load how j a b is
+      module _ (how : LoadMode) (j : ℕ) (a b : Operand) (is : x ≡ Load how j a b) (r : Tried) (n : Noted x t p sub apart r) where
+        told : (r .met ≡ sub .met) × (r .counted ≡ set (p .counted) t (careOf (sub .cares .of) j)) × ((v v' : Thread) → Agreeing (r .cares .of) v v' → AgreeingBut (sub .cares .of) j v v') × (r .apart ≡ true → apart ≡ true)
+        told = n .load how j a b is
 
-          load : (u : ℕ) (s' v : Thread) → execute x m u s' ≡ next v → execute (Load how j a b) m u s' ≡ next v
-          load u s' v d = subst (λ (o : Instr). execute o m u s' ≡ next v) is d
+        load : (u : ℕ) (s' v : Thread) → execute x m u s' ≡ next v → execute (Load how j a b) m u s' ≡ next v
+        load u s' v d = subst (λ (o : Instr). execute o m u s' ≡ next v) is d
 
-          follows : (s' v : Thread) → Rests (r .cares .of) s s' → Likewise x m s s' → execute x m t s' ≡ next v → Rests (sub .cares .of) y v
-          follows s' v rests like d =
-              let near = like .load how j a b is in
-              load-rests m how j a b s s' (rests .under) (near .0) (near .1) (sub .cares .of) (z .2 s s' (rests .agreeing)) t t (cares.same refl) (le-refl _) y v (load t s y does) (load t s' v d)
+        -- a load, by what follows from it in threads that do likewise
+        went-by : (execute x m t s ≡ next z) ⊎ Vacant m (loadLocation s a b) → ((s' v : Thread) → Rests (r .cares .of) s s' → Likewise (r .apart) x m s s' → execute x m t s' ≡ next v → Rests (sub .cares .of) z v) → Went c i m s x q p t r
+        went-by came follows = goes-on r n (told .0) follows failed
+          where
+            here : (u : ℕ) → (countedAt (r .counted) u ≡ 3 → ⊥) → u ≡ t → Failed c i m s x q r j a b u
+            here u tried e =
+                record {
+                  after = z;
+                  does = subst (λ (o : ℕ). (execute x m o s ≡ next z) ⊎ Vacant m (loadLocation s a b)) (sym e) came;
+                  cares = sub .cares .of;
+                  noted = sym (ap (λ (o : List ℕ). countedAt o u) (told .1) ∙ noted-at (p .counted) t (careOf (sub .cares .of) j) u (λ o. tried (ap (λ (l : List ℕ). countedAt l u) (told .1) ∙ o)) e);
+                  among = λ s' agree. told .2 s s' agree;
+                  barren = λ v rests k sought o. found .barren v rests k (subst (λ (l : Met). Unmet (q .from) l k) (told .0) sought) o;
+                }
 
-          here : (u : ℕ) → (countedAt (r .counted) u ≡ 3 → ⊥) → u ≡ t → Failed c i m s x q r j u
-          here u tried e =
-              record {
-                after = y;
-                does = subst (λ (o : ℕ). execute x m o s ≡ next y) (sym e) does;
-                cares = sub .cares .of;
-                noted = sym (ap (λ (o : List ℕ). countedAt o u) (z .1) ∙ noted-at (p .counted) t (careOf (sub .cares .of) j) u (λ o. tried (ap (λ (l : List ℕ). countedAt l u) (z .1) ∙ o)) e);
-                among = λ s' agree. z .2 s s' agree;
-                barren = λ v rests k sought o. found .barren v rests k (subst (λ (l : Met). Unmet (q .from) l k) (z .0) sought) o;
-              }
+            failed : Better (q .from) (Meets c i m z (q .hole)) (p .met) (r .met) → (how' : LoadMode) (j' : ℕ) (a' b' : Operand) → x ≡ Load how' j' a' b' → (u : ℕ) → (countedAt (r .counted) u ≡ 3 → ⊥) → Failed c i m s x q r j' a' b' u
+            failed better how' j' a' b' is' u tried =
+                let one = load-same how how' j j' a a' b b' (sym is ∙ is') in
+                elim (ℕ-discrete u t) [
+                  | yes e ↦ subst (λ (o : ℕ). Failed c i m s x q r o a' b' u) (one .0) (subst₂ (λ (o o' : Operand). Failed c i m s x q r j o o' u) (one .1) (one .2) (here u tried e))
+                  | no e ↦ (let as-before : countedAt (r .counted) u ≡ countedAt (p .counted) u = ap (λ (l : List ℕ). countedAt l u) (told .1) ∙ getD-set-other (p .counted) t u _ 3 e in
+                      still r better (n .covers) j' u as-before a' b' (known .failed how' j' a' b' is' u (λ o. tried (as-before ∙ o))))
+                ]
 
-          failed : Better (q .from) (Meets c i m y (q .hole)) (p .met) (r .met) → (how' : LoadMode) (j' : ℕ) (a' b' : Operand) → x ≡ Load how' j' a' b' → (u : ℕ) → (countedAt (r .counted) u ≡ 3 → ⊥) → Failed c i m s x q r j' u
-          failed better how' j' a' b' is' u tried =
-              let one : j ≡ j' = load-same how how' j j' a a' b b' (sym is ∙ is') .0 in
-              elim (ℕ-discrete u t) [
-                | yes e ↦ subst (λ (o : ℕ). Failed c i m s x q r o u) one (here u tried e)
-                | no e ↦ (let told : countedAt (r .counted) u ≡ countedAt (p .counted) u = ap (λ (l : List ℕ). countedAt l u) (z .1) ∙ getD-set-other (p .counted) t u _ 3 e in
-                    still r better (n .covers) j' u told (known .failed how' j' a' b' is' u (λ o. tried (told ∙ o))))
-              ]
+        -- a load that was not apart, from which it goes on as it is
+        pub went-load : z ≡ y → (apart ≡ true → ⊥) → Went c i m s x q p t r
+        went-load e alone = went-by (inl (does ∙ ap next (sym e))) (λ s' v rests like d.
+            let same-location = ⊎-elim (λ (here : loadLocation s a b ≡ loadLocation s' a b). here) (λ o. absurd (alone (told .3 (o .0)))) (like .load how j a b is) in
+            load-rests m how j a b s s' (rests .under) same-location (sub .cares .of) (told .2 s s' (rests .agreeing)) t t (cares.same refl) (le-refl _) z v (load t s z (does ∙ ap next (sym e))) (load t s' v d))
 
-      pub went-store : (how : StoreMode) (a d : Operand) → x ≡ Store how a d → (r : Tried) → Noted x t p sub r → Went c i m s x q p t r
-      went-store how a d is r n =
-          goes-on r (z .0) (n .covers) (λ s' v rests like e.
-          store-rests m how a d s s' (rests .under) (like .store how a d is .place) (sub .cares .of) (z .2 s s' (rests .agreeing)) t y v (store s y does) (store s' v e))
+        -- one that was, from which it goes on with the coherence views of before
+        pub went-idle : z ≡ cohering y (s .coherence) → t ≡ 0 → Vacant m (loadLocation s a b) → readView s (loadLocation s a b) 0 ≡ 0 → Went c i m s x q p t r
+        went-idle e zero vacant unseen = went-by (inr vacant) (λ s' v rests like d.
+            subst (λ (o : Thread). Rests (sub .cares .of) o v) (sym e)
+            (idle-rests m how j a b s s' (rests .under) (sub .cares .of) (told .2 s s' (rests .agreeing)) unseen y v (at-zero s y (load t s y does)) (at-zero s' v (load t s' v d))))
+          where
+            at-zero : (o o' : Thread) → execute (Load how j a b) m t o ≡ next o' → execute (Load how j a b) m 0 o ≡ next o'
+            at-zero o o' d = subst (λ (u : ℕ). execute (Load how j a b) m u o ≡ next o') zero d
+
+      pub went-store : z ≡ y → (how : StoreMode) (a d : Operand) → x ≡ Store how a d → (r : Tried) → Noted x t p sub apart r → Went c i m s x q p t r
+      went-store e how a d is r n =
+          goes-on r n (told .0) (λ s' v rests like o.
+          store-rests m how a d s s' (rests .under) (like .store how a d is .place) (sub .cares .of) (told .2 s s' (rests .agreeing)) t z v (store s z (does ∙ ap next (sym e))) (store s' v o))
           (λ better how' j' a' b' is' u tried. absurd (load-not-store how' how j' a' a b' d (sym is' ∙ is)))
         where
-          z : (r .met ≡ sub .met) × (r .counted ≡ p .counted) × ((v v' : Thread) → Agreeing (r .cares .of) v v' → Agreeing (sub .cares .of) v v')
-          z = n .store how a d is
+          told : (r .met ≡ sub .met) × (r .counted ≡ p .counted) × ((v v' : Thread) → Agreeing (r .cares .of) v v' → Agreeing (sub .cares .of) v v')
+          told = n .store how a d is
 
           store : (s' v : Thread) → execute x m t s' ≡ next v → execute (Store how a d) m t s' ≡ next v
-          store s' v e = subst (λ (o : Instr). execute o m t s' ≡ next v) is e
+          store s' v o = subst (λ (w : Instr). execute w m t s' ≡ next v) is o
 
-      -- whichever it is
-      pub went-on : (r : Tried) → Noted x t p sub r → Went c i m s x q p t r
-      unfolding plainly
-      went-on r n = go x refl
-        where
-          go : (o : Instr) → x ≡ o → Went c i m s x q p t r
-          go (Compute how j a b) e = absurd (no-thread-left (sym (ap (λ (v : Instr). plainly v s) e) ∙ known .halting))
-          go (Load how j a b) e = went-load how j a b e r n
-          go (Store how a d) e = went-store how a d e r n
-          go (Branch how a b) e = absurd (no-thread-left (sym (ap (λ (v : Instr). plainly v s) e) ∙ known .halting))
-          go (Fence how) e = absurd (no-thread-left (sym (ap (λ (v : Instr). plainly v s) e) ∙ known .halting))
+    -- it goes on as it is
+    pub went-on : (y : Thread) → execute x m t s ≡ next y → (sub : Reached) → Found (q .from) (p .met) (λ v k. Meets c i m v (q .hole) k) y sub → (r : Tried) → Noted x t p sub false r → Went c i m s x q p t r
+    unfolding plainly
+    went-on y does sub found r n = go x refl
+      where
+        go : (o : Instr) → x ≡ o → Went c i m s x q p t r
+        go (Compute how j a b) e = absurd (no-thread-left (sym (ap (λ (v : Instr). plainly v s) e) ∙ known .halting))
+        go (Load how j a b) e = went-load y does y (λ k w. w) sub found false how j a b e r n refl (λ o. subst T (sym o) tt)
+        go (Store how a d) e = went-store y does y (λ k w. w) sub found false refl how a d e r n
+        go (Branch how a b) e = absurd (no-thread-left (sym (ap (λ (v : Instr). plainly v s) e) ∙ known .halting))
+        go (Fence how) e = absurd (no-thread-left (sym (ap (λ (v : Instr). plainly v s) e) ∙ known .halting))
+
+    -- it is idle, and goes on with the coherence views of before
+    pub went-apart : (y : Thread) → execute x m t s ≡ next y → Idles x m s t y (q .hole) → (z : Thread) → z ≡ cohering y (s .coherence) → (sub : Reached) → Found (q .from) (p .met) (λ v k. Meets c i m v (q .hole) k) z sub
+        → (r : Tried) → Noted x t p sub true r → Went c i m s x q p t r
+    went-apart y does o z e sub found r n =
+        went-idle y does z lifts sub found true (o .mode) (o .register) (o .a) (o .b) (o .is-load) r n e (o .at-zero) (o .vacant) (o .unseen)
+      where
+        lifts : (k : ℕ) → Meets c i m z (q .hole) k → Meets c i m y (q .hole) k
+        lifts k w = idle-lifts c i (q .hole) k x m s t y does o (subst (λ (v : Thread). Meets c i m v (q .hole) k) e w)

@@ -4,7 +4,7 @@ use mathlib.Core.Path.{_≡_, refl, sym, ap, ap₂, subst, _∙_}
 use mathlib.Core.Logic.{_⊎_, ⊎-elim}
 use mathlib.Core.Bool.{Bool, true, not}
 use mathlib.Core.Option.{none, Option·some-injective}
-use Prim.Native.Nat.{ℕ, _+_, _≤_, _<_}
+use Prim.Native.Nat.{ℕ, _+_, _*_, _≤_, _<_}
 use native.Mathlib.Omega.{arith}
 use lib.Count.{ones}
 use borrow.Author.Tests.{not-true}
@@ -70,7 +70,7 @@ module _ (c : Code) (i : ℕ) (m : Memory) (s : Thread) (x : Instr) (q : Sought)
 
   -- the store is noted to rest on its location and data
   module _ (how : StoreMode) (a d : Operand) (is : x ≡ Store how a d) (few : m .count < 16) (u : Ruled) (e : u ≡ ruled s (ownStore how a d m i s)) (settled : Cares)
-      (near : (v v' : Thread) → Agreeing (settled .of) v v' → Agrees 1 (valueOf v a) (valueOf v' a)) (noted : (v v' : Thread) → Agreeing (settled .of) v v' → Agrees 2 (valueOf v d) (valueOf v' d)) where
+      (near : (v v' : Thread) → Agreeing (settled .of) v v' → Agrees (65536 * 65535) (valueOf v a) (valueOf v' a)) (noted : (v v' : Thread) → Agreeing (settled .of) v v' → Agrees 2 (valueOf v d) (valueOf v' d)) where
     w : Message
     w = storeMessage i a d s
 

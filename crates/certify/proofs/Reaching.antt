@@ -4,7 +4,7 @@ use mathlib.Core.Path.{_≡_, refl, sym, ap, _∙_, subst}
 use mathlib.Core.Logic.{inl, inr, ⊎-elim}
 use mathlib.Core.Option.{some, Option·some-injective}
 use Prim.Native.Nat.{ℕ, _+_, _-_, _*_, _≤_, _<_}
-use native.Mathlib.Decide.{ℕ-discrete, decLt}
+use native.Mathlib.Decide.{ℕ-discrete}
 use native.Mathlib.Omega.{arith}
 use lib.Dec.{T, eqb, eqb→eq}
 use Rattle.source.specs.Program.{instrAt}
@@ -23,7 +23,7 @@ use Rattle.certify.specs.Below.{Code, Operand, StoreMode, Instr, Store, 
 use Rattle.certify.specs.Certify.{messageOf, certified}
 use Rattle.certify.specs.Answers.{Trying}
 use Rattle.certify.specs.Runs.{done, by, own}
-use Rattle.certify.specs.Asks.{Unmet, Seeks, Asks, FillsSame, Repeats}
+use Rattle.certify.specs.Asks.{Unmet, Seeks, Asks, Repeats}
 use Rattle.certify.specs.Sought.{Met, Sought, Tried, Reached, Fills, Better, same, Twice, Emptied, Meets, Owns, Found, Unkept, Filled, Missed, Through}
 use Rattle.certify.specs.Straight.{Leads, Ran}
 use Rattle.certify.specs.Under.{Rests}
@@ -83,7 +83,7 @@ module _ (c : Code) (i : ℕ) (m : Memory) (s : Thread) (q : Sought) where
     -- after the last time, and the own message
     module _ (unkept : Unkept s x q) (room : m .count ≤ 16) (p : Tried) (t : ℕ) (tried : Better (q .from) (Meets c i m s (q .hole)) (here .met) (p .met)) (covered : Covers (p .cares .of) (here .cares .of)) (known : Missed c i m s x q p 0 t) (over : 16 < t)
         (r : Reached) (owns : Found (q .from) (p .met) (λ y j. Owns c i m y x (q .hole) j) s r) (covers : Covers (r .cares .of) (p .cares .of))
-        (last : Sought) (is-last : last ≡ record { hole = q .hole; from = q .from; met = r .met }) (asked : Cares) (asks : Asks x m s last (asked .of) × FillsSame x s last (asked .of))
+        (last : Sought) (is-last : last ≡ record { hole = q .hole; from = q .from; met = r .met }) (asked : Cares) (asks : Asks x m s last (p .apart) (asked .of))
         (k : Cares) (both : Covers (k .of) (r .cares .of) × Covers (k .of) (asked .of)) where
       pub reach-better : Better (q .from) (Meets c i m s (q .hole)) (q .met) (r .met)
       reach-better = better-on fills-meets (better-on tried (owns-meets (owns .better)))
@@ -117,11 +117,11 @@ module _ (c : Code) (i : ℕ) (m : Memory) (s : Thread) (q : Sought) where
           number = subst (Seeks last) (sym (subst (λ (w : Message). 256 * w .location + w .value ≡ j) (sym mine) (f .number))) (sought-last j u)
 
           place : address (valueOf s a) ≡ address (valueOf s' a)
-          place = ⊎-elim (λ here. here .place) (λ there. absurd (there .unsought out (valueOf s' d) byte number)) (asks .0 .store how a d is s' agree)
+          place = ⊎-elim (λ here. here .place) (λ there. absurd (there .unsought out (valueOf s' d) byte number)) (asks .store how a d is .store s' agree)
 
           unsought : (valueOf s d ≡ valueOf s' d → ⊥) → ⊥
           unsought n =
-              let z = asks .1 .number how a d is out in
+              let z = asks .store how a d is .number out in
               let ag = z .1 .1 s' agree in
               z .1 .0 .missed (λ t. n (z .1 .0 .found t (valueOf s' d) ag)) (valueOf s' d) byte ag (subst (λ (l : ℕ). Seeks last (256 * l + valueOf s' d)) (sym place) number)
 
@@ -133,7 +133,7 @@ module _ (c : Code) (i : ℕ) (m : Memory) (s : Thread) (q : Sought) where
           fills .barren s' (rests-less covered (rests-less covers less)) (repeats s' rests j u f) j (narrows tried j (narrows (owns .better) j u)) f
       barren s' rests j u (by y v z g tl e w) =
           let does = subst (λ (o : Instr). execute o m v s' ≡ next z) (sym (same-next s' rests y g)) e in
-          known .missed v (omega arith) (omega arith) s' z (rests-less covers (rests-less (both .0) rests)) (asked-likewise x m s s' last (asked .of) (asks .0) (rests-less (both .1) rests) v z does) does j (narrows (owns .better) j u) w
+          known .missed v (omega arith) (omega arith) s' z (rests-less covers (rests-less (both .0) rests)) (asked-likewise x m s s' last (p .apart) (asked .of) asks (rests-less (both .1) rests) v z does) does j (narrows (owns .better) j u) w
       barren s' rests j u (own y w v g gw few e rest) =
           let z = same-next s' rests y g in
           owns .barren s' (rests-less (both .0) rests) j u

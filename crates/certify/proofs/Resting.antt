@@ -2,19 +2,22 @@
 -- Assumes nothing.
 use mathlib.Core.Path.{_≡_, refl, sym, subst}
 use mathlib.Core.List.{List}
-use Prim.Native.Nat.{ℕ, _≤_}
+use Prim.Native.Nat.{ℕ, suc, _≤_}
 use native.Mathlib.Nat.{le-trans}
-use lib.Dec.{T, eqb}
+use native.Mathlib.Decide.{ℕ-discrete}
+use native.Mathlib.Omega.{arith}
+use lib.Dec.{T, eqb, eqb→eq, not-T}
 use lib.ListN.{getD, set}
 use Rattle.views.proofs.Entries.{set-both}
+use Rattle.source.proofs.Tests.{and-left, below-all}
 use Rattle.machine.specs.State.{messageAt, has, freshRegister}
-use Rattle.machine.specs.Rules.{next, valueOf, address, combine, computeDone, branchBy, branchDone, fenceDone, readValue, readView, execute, addPromise}
-use Rattle.machine.proofs.Effects.{loadLocation, Effect, loaded, stored, effect}
+use Rattle.machine.specs.Rules.{next, valueOf, address, combine, computeDone, branchBy, branchDone, fenceDone, readable, newer, noneNewer, readValue, readView, execute, addPromise}
+use Rattle.machine.proofs.Effects.{loadLocation, Effect, loaded, stored, effect, readable-time, read-there}
 use Rattle.cares.specs.Cares.{Agrees, same, careOf, Agreeing, AgreeingBut}
 use Rattle.certify.specs.Below.{Operand, ComputeMode, LoadMode, StoreMode, FenceMode, Load, Store, Memory, Register, Thread}
 use Rattle.certify.specs.Under.{Under, Rests}
-use Rattle.certify.proofs.Lower.{near-sum}
-use Rattle.certify.proofs.Under.{under-self, promise-under, compute-under, branch-under, fence-under, read-low, post-low, load-under, load-effect, store-under, store-effect}
+use Rattle.certify.specs.Vacant.{Vacant, cohering}
+use Rattle.certify.proofs.Under.{under-self, promise-under, compute-under, branch-under, fence-under, read-low, post-low, post-unseen, load-under, load-idle-under, load-effect, store-under, store-effect}
 use Rattle.certify.proofs.Executes.{executes}
 
 -- a thread has what it rests on
@@ -44,10 +47,7 @@ pub fence-rests : (k : FenceMode) (s s' : Thread) (K : List ℕ) → Rests K s s
 fence-rests k s s' K h = record { under = fence-under s s' (h .under) k; agreeing = h .agreeing }
 
 -- ---- a load of the same location
-module _ (m : Memory) (k : LoadMode) (r : ℕ) (a b : Operand) (s s' : Thread) (h : Under s s') (near-a : address (valueOf s a) ≡ address (valueOf s' a)) (near-b : address (valueOf s b) ≡ address (valueOf s' b)) where
-  same-location : loadLocation s a b ≡ loadLocation s' a b
-  same-location = near-sum _ _ _ _ near-a near-b
-
+module _ (m : Memory) (k : LoadMode) (r : ℕ) (a b : Operand) (s s' : Thread) (h : Under s s') (same-location : loadLocation s a b ≡ loadLocation s' a b) where
   -- what s' reads s can read
   pub load-too-rests : (t : ℕ) (y' : Thread) → execute (Load k r a b) m t s' ≡ next y' → (y : Thread) × (execute (Load k r a b) m t s ≡ next y)
   load-too-rests t y' e = go y' (effect (Load k r a b) m t s' y' e)
@@ -65,6 +65,41 @@ module _ (m : Memory) (k : LoadMode) (r : ℕ) (a b : Operand) (s s' : Thread) (
           record {
             under = load-under s s' h a b same-location k r m u t _ _ (post-low s s' h a b same-location k u t (le-trans low (read-low s s' h a b same-location t)));
             agreeing = set-agreeing K r s s' _ _ h others written;
+          }
+
+-- ---- loads of locations without a message
+-- none is newer than another
+pub none-newer : (m : Memory) (l t v : ℕ) → Vacant m l → T (noneNewer m l t v)
+unfolding noneNewer
+none-newer m l t v vacant =
+    below-all _ (m .count) (λ k kl. not-T (newer m l t v (suc k)) (λ n. let at : T (eqb ((messageAt m (suc k)) .location) l) = search and-left in vacant (suc k) (omega arith) kl (eqb→eq _ l at)))
+
+module _ (m : Memory) (k : LoadMode) (r : ℕ) (a b : Operand) where
+  -- they execute at time 0
+  pub vacant-does : (s : Thread) → Vacant m (loadLocation s a b) → (y : Thread) × (execute (Load k r a b) m 0 s ≡ next y)
+  unfolding readable
+  vacant-does s vacant = (_, executes (loaded tt (none-newer m (loadLocation s a b) 0 _ vacant)))
+
+  -- and at no other
+  pub vacant-zero : (s : Thread) → Vacant m (loadLocation s a b) → (t : ℕ) (y : Thread) → execute (Load k r a b) m t s ≡ next y → t ≡ 0
+  vacant-zero s vacant t y e = go y (effect (Load k r a b) m t s y e)
+    where
+      go : (y : Thread) → Effect m t s (Load k r a b) y → t ≡ 0
+      go y (loaded d n) = elim (ℕ-discrete t 0) [
+        | yes z ↦ z
+        | no z ↦ absurd (vacant t (omega arith) (readable-time m (loadLocation s a b) t d) (read-there m (loadLocation s a b) t (omega arith) d))
+      ]
+
+  -- s reads at time 0 with no view but its pre-view: with the coherence views of before, it is under what any other leaves at time 0
+  pub idle-rests : (s s' : Thread) → Under s s' → (K : List ℕ) → AgreeingBut K r s s' → readView s (loadLocation s a b) 0 ≡ 0
+      → (y y' : Thread) → execute (Load k r a b) m 0 s ≡ next y → execute (Load k r a b) m 0 s' ≡ next y' → Rests K (cohering y (s .coherence)) y'
+  idle-rests s s' h K others unseen y y' e e' = go y y' (effect (Load k r a b) m 0 s y e) (effect (Load k r a b) m 0 s' y' e')
+    where
+      go : (y y' : Thread) → Effect m 0 s (Load k r a b) y → Effect m 0 s' (Load k r a b) y' → Rests K (cohering y (s .coherence)) y'
+      go y y' (loaded d n) (loaded d' n') =
+          record {
+            under = load-idle-under s s' h a b k r m 0 0 _ _ (post-unseen s s' h a b k unseen);
+            agreeing = set-agreeing K r s s' _ _ h others (same refl);
           }
 
 -- ---- a store to the same location

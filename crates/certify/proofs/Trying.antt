@@ -2,6 +2,7 @@
 -- Assumes nothing.
 use mathlib.Core.Path.{_≡_, refl, sym, ap, subst, _∙_}
 use mathlib.Core.Bool.{Bool, false, not, _&&_}
+use mathlib.Core.List.{List}
 use Prim.Native.Nat.{ℕ, zero, suc, max, _+_, _-_, _^_, _≤_, _<_}
 use native.Mathlib.Decide.{decLt}
 use native.Mathlib.Omega.{arith}
@@ -17,6 +18,7 @@ use Rattle.machine.proofs.Effects.{loadLocation, loadPreView, Effect, computed,
 use Rattle.certify.specs.Below.{Code, Operand, ComputeMode, LoadMode, StoreMode, FenceMode, Instr, Compute, Load, Store, Branch, Fence, Message, Memory, Thread}
 use Rattle.times.specs.Times.{After}
 use Rattle.certify.specs.Answers.{Ready, Trying, Earliest, Stands, NextKept, NextMessage, Following}
+use Rattle.certify.specs.Vacant.{cohering}
 use Rattle.certify.proofs.Fit.{own-effect, own-leaves}
 
 -- ---- promises of a location and a value, one by one
@@ -123,6 +125,9 @@ ready-after w (loaded r n) = record { code-ok = w .code-ok; room = w .room; prom
 ready-after {c} {m} {s} {t} w (stored p a b) = record { code-ok = w .code-ok; room = w .room; promises-in = without-small (s .promises) (m .count) t (w .promises-in) }
 ready-after w (branched e) = record { code-ok = w .code-ok; room = w .room; promises-in = w .promises-in }
 ready-after w (fenced e) = record { code-ok = w .code-ok; room = w .room; promises-in = w .promises-in }
+
+pub ready-lowered : {c : Code} {m : Memory} {y z : Thread} {xs : List ℕ} → Ready c m y → z ≡ cohering y xs → Ready c m z
+ready-lowered {c} {m} w e = subst (Ready c m) (sym e) (record { code-ok = w .code-ok; room = w .room; promises-in = w .promises-in })
 
 pub ready-own : {c : Code} {m : Memory} {s : Thread} (i : ℕ) (k : StoreMode) (a d : Operand) (s' : Thread) → Ready c m s → m .count < 16 → ownStore k a d m i s ≡ next s'
     → Ready c (append m (storeMessage i a d s)) s'

@@ -1,18 +1,21 @@
 -- One instruction on two threads of which one is under the other: what s' does, s does too where the values that matter are the same, and stays under.
 -- Assumes nothing.
 use mathlib.Core.Path.{_≡_, refl, sym, ap, ap₂, _∙_, subst}
+use mathlib.Core.List.{List}
 use Prim.Native.Nat.{ℕ, max, _+_, _≤_, _<_}
-use native.Mathlib.Nat.{le-refl, lt-of-le-of-lt}
+use native.Mathlib.Nat.{le-refl, le-trans, lt-of-le-of-lt}
+use native.Mathlib.Omega.{arith}
 use lib.Dec.{T, eqb}
 use lib.ListN.{length, getD, set, length-set}
 use Rattle.views.specs.Views.{viewAt, raiseAt}
 use Rattle.views.proofs.Entries.{set-both}
-use Rattle.views.proofs.Merging.{length-raise}
+use Rattle.views.proofs.Merging.{length-raise, raise-up}
 use Rattle.machine.specs.State.{has, with, without, freshRegister, freshForward}
 use Rattle.machine.specs.Rules.{valueOf, viewOf, viewOf₂, computeDone, branchBy, branchDone, fenceDone, storeDone, readable, noneNewer, readView, loadDone, storePre, addPromise}
 use Rattle.machine.proofs.Effects.{loadLocation, loadPreView, loadPostView, storeLocation, Promised, Effect, loaded, stored}
 use Rattle.certify.specs.Below.{Operand, Constant, OfRegister, ComputeMode, LoadMode, StoreMode, FenceMode, Load, Store, Memory, Register, Forward, Thread}
 use Rattle.certify.specs.Under.{Forwarded, Under}
+use Rattle.certify.specs.Vacant.{cohering}
 use Rattle.certify.proofs.Lower.{raise-both, max-low, pre-low, store-pre-low, load-views-low, store-views-low, cap-views-low, fence-views-low, none-newer-low, view-low}
 
 -- a thread is under itself
@@ -110,11 +113,40 @@ module _ (s s' : Thread) (h : Under s s') where
         views-low = fence-views-low k (s .views) (s' .views) (h .views-low);
       }
 
-  -- ---- a load of the same location
-  module _ (a b : Operand) (same : loadLocation s a b ≡ loadLocation s' a b) where
+  -- ---- loads
+  module _ (a b : Operand) where
     pre-view-low : (k : LoadMode) → loadPreView k s a b ≤ loadPreView k s' a b
     pre-view-low k = pre-low k _ _ (s .views) (s' .views) (operands-low a b) (h .views-low)
 
+    -- a read at time 0 that has no view of its own gives a post-view no larger than any other's
+    pub post-unseen : (k : LoadMode) → readView s (loadLocation s a b) 0 ≡ 0 → loadPostView k s a b 0 ≤ loadPostView k s' a b 0
+    post-unseen k unseen = max-low _ _ _ _ (pre-view-low k) (subst (λ (v : ℕ). v ≤ readView s' (loadLocation s' a b) 0) (sym unseen) (omega arith))
+
+    -- what two loads leave, the one with a post-view no larger, and with coherence views no larger
+    loaded-under : (k : LoadMode) (r : ℕ) (m : Memory) (t t' l l' post post' : ℕ) (xs xs' : List ℕ) → post ≤ post' → length xs ≡ length xs' → ((j : ℕ) → viewAt xs j ≤ viewAt xs' j)
+        → Under (cohering (loadDone k r m t l (viewOf₂ s a b) post s) xs) (cohering (loadDone k r m t' l' (viewOf₂ s' a b) post' s') xs')
+    loaded-under k r m t t' l l' post post' xs xs' low long coheres =
+        record {
+          same-position = ap (λ (n : ℕ). n + 1) (h .same-position);
+          same-promises = h .same-promises;
+          registers-long = set-long r _ _;
+          registers-low = set-low r _ _ low;
+          coherence-long = long;
+          coherence-low = coheres;
+          forward-long = h .forward-long;
+          forward-same = h .forward-same;
+          views-low = load-views-low k _ _ post post' (s .views) (s' .views) (operands-low a b) low (h .views-low);
+        }
+
+    -- the one with the coherence views of before
+    pub load-idle-under : (k : LoadMode) (r : ℕ) (m : Memory) (t t' post post' : ℕ) → post ≤ post'
+        → Under (cohering (loadDone k r m t (loadLocation s a b) (viewOf₂ s a b) post s) (s .coherence)) (loadDone k r m t' (loadLocation s' a b) (viewOf₂ s' a b) post' s')
+    load-idle-under k r m t t' post post' low =
+        loaded-under k r m t t' (loadLocation s a b) (loadLocation s' a b) post post' (s .coherence) (raiseAt (s' .coherence) (loadLocation s' a b) post') low (h .coherence-long ∙ sym (length-raise (s' .coherence) _ post'))
+        (λ j. le-trans (h .coherence-low j) (raise-up (s' .coherence) (loadLocation s' a b) post' j))
+
+  -- ---- a load of the same location
+  module _ (a b : Operand) (same : loadLocation s a b ≡ loadLocation s' a b) where
     -- what is read at one time is read with a view no larger
     pub read-low : (t : ℕ) → readView s (loadLocation s a b) t ≤ readView s' (loadLocation s' a b) t
     read-low t =
@@ -123,24 +155,15 @@ module _ (s s' : Thread) (h : Under s s') where
 
     -- a read view no larger gives a post-view no larger
     pub post-low : (k : LoadMode) (u t : ℕ) → readView s (loadLocation s a b) u ≤ readView s' (loadLocation s' a b) t → loadPostView k s a b u ≤ loadPostView k s' a b t
-    post-low k u t low = max-low _ _ _ _ (pre-view-low k) low
+    post-low k u t low = max-low _ _ _ _ (pre-view-low a b k) low
 
     -- what two loads leave, the one with a post-view no larger
     pub load-under : (k : LoadMode) (r : ℕ) (m : Memory) (t t' post post' : ℕ) → post ≤ post'
         → Under (loadDone k r m t (loadLocation s a b) (viewOf₂ s a b) post s) (loadDone k r m t' (loadLocation s' a b) (viewOf₂ s' a b) post' s')
     load-under k r m t t' post post' low =
-        record {
-          same-position = ap (λ (n : ℕ). n + 1) (h .same-position);
-          same-promises = h .same-promises;
-          registers-long = set-long r _ _;
-          registers-low = set-low r _ _ low;
-          coherence-long = raise-long _ _ _ _;
-          coherence-low = subst (λ (l : ℕ). (j : ℕ) → viewAt (raiseAt (s .coherence) l post) j ≤ viewAt (raiseAt (s' .coherence) (loadLocation s' a b) post') j) (sym same)
-              (raise-both (s .coherence) (s' .coherence) (loadLocation s' a b) post post' (h .coherence-long) (h .coherence-low) low);
-          forward-long = h .forward-long;
-          forward-same = h .forward-same;
-          views-low = load-views-low k _ _ post post' (s .views) (s' .views) (operands-low a b) low (h .views-low);
-        }
+        loaded-under a b k r m t t' (loadLocation s a b) (loadLocation s' a b) post post' (raiseAt (s .coherence) (loadLocation s a b) post) (raiseAt (s' .coherence) (loadLocation s' a b) post') low (raise-long _ _ _ _)
+        (subst (λ (l : ℕ). (j : ℕ) → viewAt (raiseAt (s .coherence) l post) j ≤ viewAt (raiseAt (s' .coherence) (loadLocation s' a b) post') j) (sym same)
+        (raise-both (s .coherence) (s' .coherence) (loadLocation s' a b) post post' (h .coherence-long) (h .coherence-low) low))
 
     -- what s' reads s can read
     pub load-effect : (k : LoadMode) (r : ℕ) (m : Memory) (t : ℕ) → T (readable m (loadLocation s' a b) t) → T (noneNewer m (loadLocation s' a b) t (max (loadPreView k s' a b) (viewAt (s' .coherence) (loadLocation s' a b))))
@@ -148,7 +171,7 @@ module _ (s s' : Thread) (h : Under s s') where
     load-effect k r m t d n =
         loaded (subst (λ (l : ℕ). T (readable m l t)) (sym same) d)
         (subst (λ (l : ℕ). T (noneNewer m l t (max (loadPreView k s a b) (viewAt (s .coherence) l)))) (sym same)
-        (none-newer-low m (loadLocation s' a b) t t _ _ (le-refl t) (max-low _ _ _ _ (pre-view-low k) (h .coherence-low (loadLocation s' a b))) n))
+        (none-newer-low m (loadLocation s' a b) t t _ _ (le-refl t) (max-low _ _ _ _ (pre-view-low a b k) (h .coherence-low (loadLocation s' a b))) n))
 
   -- ---- a store to the same location
   module _ (k : StoreMode) (a d : Operand) (same : storeLocation s a ≡ storeLocation s' a) where

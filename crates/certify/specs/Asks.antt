@@ -2,16 +2,17 @@
 -- Assumes nothing.
 use mathlib.Core.Path.{_≡_}
 use mathlib.Core.Logic.{_⊎_}
-use mathlib.Core.Bool.{cond}
+use mathlib.Core.Bool.{Bool, true, cond}
 use mathlib.Core.List.{List}
 use Prim.Native.Nat.{ℕ, _+_, _*_, _≤_, _<_}
 use lib.Dec.{T, leb, ltb}
 use Rattle.machine.specs.State.{messageAt, has}
 use Rattle.machine.specs.Rules.{valueOf, address}
-use Rattle.cares.specs.Cares.{Agrees, Agreeing}
+use Rattle.cares.specs.Cares.{Marked, Agrees, Agreeing}
 pub use Rattle.certify.specs.declared.Met.{Met}
 pub use Rattle.certify.specs.declared.Sought.{Sought}
 use Rattle.certify.specs.Below.{Operand, LoadMode, StoreMode, Instr, Load, Store, Memory, Thread}
+use Rattle.certify.specs.Vacant.{Vacant}
 
 -- a value y that agrees with v by the care r is that of a promise to l, one of the set p before the time end, only if it is v
 abbrev pub OtherValues : Memory → ℕ → ℕ → ℕ → ℕ → ℕ → Type 0
@@ -39,36 +40,39 @@ pub record Elsewhere (m : Memory) (p : ℕ) (q : Sought) (l : ℕ) : Type 0 wher
   pub unpromised : (u : ℕ) → T (has p u) → u ≤ m .count → (messageAt m u) .location ≡ l → ⊥
   pub unsought : T (has p (q .hole)) → (v : ℕ) → v < 256 → Seeks q (256 * l + v) → ⊥
 
--- e is the only location of promises before the time end, and of numbers that are sought where the hole is among them; 16 if there is none
-pub record OnlyAt (m : Memory) (p : ℕ) (q : Sought) (e end : ℕ) : Type 0 where
-  pub promised : (u : ℕ) → T (has p u) → u < end → u ≤ m .count → (messageAt m u) .location < 16 → (messageAt m u) .location ≡ e
-  pub sought : T (has p (q .hole)) → (l v : ℕ) → l < 16 → v < 256 → Seeks q (256 * l + v) → l ≡ e
+-- the locations of the messages at the times of the set p before the time end are in the set r
+abbrev pub Located : Memory → ℕ → ℕ → ℕ → Type 0
+Located m p end r = (u : ℕ) → T (has p u) → u < end → u ≤ m .count → (messageAt m u) .location < 16 → Marked r ((messageAt m u) .location)
 
--- an address y that agrees by the care k with an address x of l is of l too, or of a location elsewhere; of l, if a number there is sought
-pub record PlaceCare (m : Memory) (p : ℕ) (q : Sought) (l k : ℕ) : Type 0 where
-  pub apart : (x y : ℕ) → address x ≡ l → Agrees k x y → (address x ≡ address y) ⊎ Elsewhere m p q (address y)
-  pub here : T (has p (q .hole)) → (v : ℕ) → v < 256 → Seeks q (256 * l + v) → (x y : ℕ) → address x ≡ l → Agrees k x y → address x ≡ address y
+-- where the hole is among the promises, the locations of the numbers that are sought are in the set r
+abbrev pub SoughtIn : ℕ → Sought → ℕ → Type 0
+SoughtIn p q r = T (has p (q .hole)) → (l v : ℕ) → l < 16 → v < 256 → Seeks q (256 * l + v) → Marked r l
 
 -- a thread whose registers agree stores to the same location, and the same value if it fulfils a promise
 pub record StoresSame (m : Memory) (s : Thread) (a d : Operand) (s' : Thread) : Type 0 where
   pub place : address (valueOf s a) ≡ address (valueOf s' a)
   pub data-kept : (u : ℕ) → T (has (s .promises) u) → u ≤ m .count → (messageAt m u) .location ≡ address (valueOf s a) → (messageAt m u) .value ≡ valueOf s' d → valueOf s d ≡ valueOf s' d
 
--- the registers that agree by the cares make a load's location the same, and a store the same, or one elsewhere
-pub record Asks (x : Instr) (m : Memory) (s : Thread) (q : Sought) (cares : List ℕ) : Type 0 where
-  pub load : (k : LoadMode) (r : ℕ) (a b : Operand) → x ≡ Load k r a b → (s' : Thread) → Agreeing cares s s'
-      → (address (valueOf s a) ≡ address (valueOf s' a)) × (address (valueOf s b) ≡ address (valueOf s' b))
-  pub store : (k : StoreMode) (a d : Operand) → x ≡ Store k a d → (s' : Thread) → Agreeing cares s s' → StoresSame m s a d s' ⊎ Elsewhere m (s .promises) q (address (valueOf s' a))
+-- the two threads load from the same location; or, where tries are apart, both from locations without a message
+abbrev pub LoadsSame : Bool → Memory → Thread → Thread → Operand → Operand → Type 0
+LoadsSame apart m s s' a b =
+    let l = address (valueOf s a + valueOf s b) in
+    let l' = address (valueOf s' a + valueOf s' b) in
+    (l ≡ l') ⊎ ((apart ≡ true) × Vacant m l × Vacant m l')
 
--- where the hole is outstanding, they make the number of a store one that is sought only if it is; it has the same location and value then
-pub record FillsSame (x : Instr) (s : Thread) (q : Sought) (cares : List ℕ) : Type 0 where
-  pub number : (k : StoreMode) (a d : Operand) → x ≡ Store k a d → T (has (s .promises) (q .hole)) → (c : ℕ) × (Unsought q (address (valueOf s a)) (valueOf s d) c × ((s' : Thread) → Agreeing cares s s' → Agrees c (valueOf s d) (valueOf s' d)))
-  pub place : (k : StoreMode) (a d : Operand) → x ≡ Store k a d → T (has (s .promises) (q .hole)) → valueOf s d < 256 → Seeks q (256 * address (valueOf s a) + valueOf s d)
-      → (s' : Thread) → Agreeing cares s s' → address (valueOf s a) ≡ address (valueOf s' a)
+-- the registers that agree by the cares make a store the same, or one elsewhere; where the hole is outstanding, its number is one that is sought only if that of the thread that failed is, and it has the same value then
+pub record StoreAsks (m : Memory) (s : Thread) (a d : Operand) (q : Sought) (cares : List ℕ) : Type 0 where
+  pub store : (s' : Thread) → Agreeing cares s s' → StoresSame m s a d s' ⊎ Elsewhere m (s .promises) q (address (valueOf s' a))
+  pub number : T (has (s .promises) (q .hole)) → (c : ℕ) × (Unsought q (address (valueOf s a)) (valueOf s d) c × ((s' : Thread) → Agreeing cares s s' → Agrees c (valueOf s d) (valueOf s' d)))
 
--- the other thread loads from the same location; or stores to it, and the same value if it fulfils a promise
-pub record Likewise (x : Instr) (m : Memory) (s s' : Thread) : Type 0 where
-  pub load : (k : LoadMode) (r : ℕ) (a b : Operand) → x ≡ Load k r a b → (address (valueOf s a) ≡ address (valueOf s' a)) × (address (valueOf s b) ≡ address (valueOf s' b))
+-- whichever the instruction is
+pub record Asks (x : Instr) (m : Memory) (s : Thread) (q : Sought) (apart : Bool) (cares : List ℕ) : Type 0 where
+  pub load : (k : LoadMode) (r : ℕ) (a b : Operand) → x ≡ Load k r a b → (s' : Thread) → Agreeing cares s s' → LoadsSame apart m s s' a b
+  pub store : (k : StoreMode) (a d : Operand) → x ≡ Store k a d → StoreAsks m s a d q cares
+
+-- the other thread loads from the same location, or from one that tries apart tell of too; or stores to it, and the same value if it fulfils a promise
+pub record Likewise (apart : Bool) (x : Instr) (m : Memory) (s s' : Thread) : Type 0 where
+  pub load : (k : LoadMode) (r : ℕ) (a b : Operand) → x ≡ Load k r a b → LoadsSame apart m s s' a b
   pub store : (k : StoreMode) (a d : Operand) → x ≡ Store k a d → StoresSame m s a d s'
 
 -- the other thread, if the instruction is a store, stores the same

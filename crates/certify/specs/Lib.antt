@@ -4,6 +4,7 @@ pub mod Runs
 pub mod Answers
 pub mod Under
 pub mod Straight
+pub mod Vacant
 pub mod Asks
 pub mod Tries
 pub mod Sought

@@ -12,7 +12,7 @@ use lib.ListN.{set}
 use Rattle.source.specs.Program.{instrAt}
 use Rattle.source.specs.Counts.{storesFrom}
 use Rattle.machine.specs.State.{append}
-use Rattle.machine.specs.Rules.{next, execute, addPromise}
+use Rattle.machine.specs.Rules.{next, valueOf, address, execute, addPromise}
 use Rattle.cares.specs.Cares.{careOf, Agreeing, AgreeingBut, Covers}
 use Rattle.certify.specs.Below.{Code, Operand, LoadMode, StoreMode, Instr, Load, Store, Message, Memory, Thread}
 use Rattle.certify.specs.Certify.{messageOf, onward, certified}
@@ -22,6 +22,7 @@ use Rattle.certify.specs.Runs.{Comes, Fewer}
 use Rattle.certify.specs.Straight.{plainly}
 use Rattle.certify.specs.Tries.{countedAt, Vain}
 use Rattle.certify.specs.Under.{Rests}
+use Rattle.certify.specs.Vacant.{Vacant}
 pub use Rattle.certify.specs.declared.reach.Reached.{Reached}
 pub use Rattle.certify.specs.declared.reach.Tried.{Tried}
 
@@ -106,10 +107,10 @@ pub record Appends (c : Code) (m : Memory) (s : Thread) (x : Instr) (b : Bool) :
 abbrev pub Hopeless : Code → Memory → Thread → Instr → List ℕ → ℕ → Type 0
 Hopeless c m s x counted t = Vain m s x counted t ⊎ (storesFrom c (s .position) < ones (s .promises))
 
--- what the try of a load into r at time u came to: it executed, and no thread in which is so what its failure rests on comes to a number that is sought; of register r that is what was noted, of the others it is among p
-pub record Failed (c : Code) (i : ℕ) (m : Memory) (s : Thread) (x : Instr) (q : Sought) (p : Tried) (r u : ℕ) : Type 0 where
+-- what the try of a load into r at time u came to: it executed, or its location has no message and another time cannot be; and no thread in which is so what its failure rests on comes to a number that is sought; of register r that is what was noted, of the others it is among p
+pub record Failed (c : Code) (i : ℕ) (m : Memory) (s : Thread) (x : Instr) (q : Sought) (p : Tried) (r : ℕ) (a b : Operand) (u : ℕ) : Type 0 where
   pub after : Thread
-  pub does : execute x m u s ≡ next after
+  pub does : (execute x m u s ≡ next after) ⊎ Vacant m (address (valueOf s a + valueOf s b))
   pub cares : List ℕ
   pub noted : careOf cares r ≡ countedAt (p .counted) u
   pub among : (s' : Thread) → Agreeing (p .cares .of) s s' → AgreeingBut cares r s s'
@@ -118,11 +119,11 @@ pub record Failed (c : Code) (i : ℕ) (m : Memory) (s : Thread) (x : Instr) (q 
 -- what is known of the tries of a load or store
 pub record Knows (c : Code) (i : ℕ) (m : Memory) (s : Thread) (x : Instr) (q : Sought) (p : Tried) : Type 0 where
   pub halting : plainly x s ≡ none
-  pub failed : (k : LoadMode) (r : ℕ) (a b : Operand) → x ≡ Load k r a b → (u : ℕ) → (countedAt (p .counted) u ≡ 3 → ⊥) → Failed c i m s x q p r u
+  pub failed : (k : LoadMode) (r : ℕ) (a b : Operand) → x ≡ Load k r a b → (u : ℕ) → (countedAt (p .counted) u ≡ 3 → ⊥) → Failed c i m s x q p r a b u
 
 -- no thread that does likewise, and in which is so what p rests on, comes by executing it at time u to a number that is sought
 abbrev pub Fails : Code → ℕ → Memory → Thread → Instr → Sought → Tried → ℕ → Type 0
-Fails c i m s x q p u = (s' y : Thread) → Rests (p .cares .of) s s' → Likewise x m s s' → execute x m u s' ≡ next y → (k : ℕ) → Unmet (q .from) (p .met) k → Meets c i m y (q .hole) k → ⊥
+Fails c i m s x q p u = (s' y : Thread) → Rests (p .cares .of) s s' → Likewise (p .apart) x m s s' → execute x m u s' ≡ next y → (k : ℕ) → Unmet (q .from) (p .met) k → Meets c i m y (q .hole) k → ⊥
 
 -- what is known before time t, of the times from `low` on
 pub record Missed (c : Code) (i : ℕ) (m : Memory) (s : Thread) (x : Instr) (q : Sought) (p : Tried) (low t : ℕ) : Type 0 where
@@ -137,13 +138,15 @@ Through c i m s x t h k = (y : Thread) × (execute x m t s ≡ next y) × Meets 
 pub record Went (c : Code) (i : ℕ) (m : Memory) (s : Thread) (x : Instr) (q : Sought) (p : Tried) (t : ℕ) (r : Tried) : Type 0 where
   pub better : Better (q .from) (Through c i m s x t (q .hole)) (p .met) (r .met)
   pub covers : Covers (r .cares .of) (p .cares .of)
+  pub narrower : r .apart ≡ true → p .apart ≡ true
   pub knows : Knows c i m s x q r
   pub fails : Fails c i m s x q r t
 
--- what is noted of a try at time t
-pub record Noted (x : Instr) (t : ℕ) (p : Tried) (sub : Reached) (r : Tried) : Type 0 where
+-- what is noted of a try at time t, which was apart or not
+pub record Noted (x : Instr) (t : ℕ) (p : Tried) (sub : Reached) (apart : Bool) (r : Tried) : Type 0 where
   pub load : (k : LoadMode) (j : ℕ) (a b : Operand) → x ≡ Load k j a b
-      → (r .met ≡ sub .met) × (r .counted ≡ set (p .counted) t (careOf (sub .cares .of) j)) × ((s s' : Thread) → Agreeing (r .cares .of) s s' → AgreeingBut (sub .cares .of) j s s')
+      → (r .met ≡ sub .met) × (r .counted ≡ set (p .counted) t (careOf (sub .cares .of) j)) × ((s s' : Thread) → Agreeing (r .cares .of) s s' → AgreeingBut (sub .cares .of) j s s') × (r .apart ≡ true → apart ≡ true)
   pub store : (k : StoreMode) (a d : Operand) → x ≡ Store k a d
       → (r .met ≡ sub .met) × (r .counted ≡ p .counted) × ((s s' : Thread) → Agreeing (r .cares .of) s s' → Agreeing (sub .cares .of) s s')
   pub covers : Covers (r .cares .of) (p .cares .of)
+  pub narrower : r .apart ≡ true → p .apart ≡ true

@@ -1,31 +1,36 @@
 // What the tries of a load or store rest on, whatever comes after them.
-ghost use mathlib.Core.Path.{_≡_};
-ghost use Prim.Native.Nat.{ℕ, _+_, _*_, _≤_, _<_};
-ghost use lib.Dec.{T};
-ghost use Rattle.machine.specs.State.{has};
-ghost use Rattle.certify.specs.Asks.{OtherValues, Seeks, Unsought, PlaceCare, Asks, FillsSame};
+ghost use Prim.Native.Nat.{_≤_, _<_};
+ghost use Rattle.cares.specs.Cares.{Agreeing};
+ghost use Rattle.certify.specs.Asks.{OtherValues, Unsought, LoadsSame, StoreAsks, Asks};
 use crate::Sought;
+use crate::places::place;
+use crate::places::vacancy;
 use cares::Cares;
+use cares::barred::turned;
+use cares::barring;
 use cares::joined;
 use machine::Memory;
 use machine::Thread;
 use machine::promises::has;
 use rules::operands::address;
+use rules::operands::address_of_sum;
 use rules::operands::value_of;
+use rules::operands::view_of;
 use source::Instr;
+use source::Operand;
 use times::after;
 
 // The care for a store's data v that it is none of the other values of the promises p to l.
-fn other_values(m: Memory, p: u16, l: u8, v: u8) -> u16
+fn other_values(m: Memory, p: u16, l: u8, v: u8) -> u32
     requires { ⌜ m .count ≤ 16 ⌝ }
     ensures { λ r. ⌜ OtherValues m p l v 17 r ⌝ }
 {
-    let mut care = 0u16;
+    let mut care = 0u32;
     let mut u = after(p, 0);
     while u <= m.count {
         let w = m.message_at(u);
         if (w.location == l) & (w.value != v) {
-            care = joined(care, 256 + w.value as u16);
+            care = joined(care, 256 + w.value as u32);
         }
         u = after(p, u);
     }
@@ -56,93 +61,53 @@ fn unsought(l: u8, v: u8, q: Sought) -> u16
     2
 }
 
-// The one location of e and at, where 16 and more stand for none; 17 if they are two.
-fn lone(e: u8, at: u8) -> u8
-    ensures { λ r. ⌜ (r < 17 → (at < 16 → at ≡ r) × (e < 16 → e ≡ r)) ⌝ }
-{
-    if 16 <= at {
-        return e;
-    }
-    if 16 <= e {
-        return at;
-    }
-    if e == at {
-        return e;
-    }
-    17
-}
-
-// The location of the numbers that are sought, if the hole is among the promises p; 16 if there is none, 17 if there are several.
-fn sought_at(p: u16, q: Sought) -> u8
-    ensures { λ r. ⌜ (r < 17 → T (has p (q .hole)) → (l v : ℕ) → l < 16 → v < 256 → Seeks q (256 * l + v) → l ≡ r) ⌝ }
-{
-    if !has(p, q.hole) {
-        return 16;
-    }
-    let top = q.met.second;
-    if top <= q.from {
-        return 16;
-    }
-    let first = q.from / 256;
-    if first != (top - 1) / 256 {
-        return 17;
-    }
-    if 16 <= first {
-        return 16;
-    }
-    first as u8
-}
-
-// The care for the address of a store to l: 1 if it may append its own message, or if promises or numbers that are sought are at l or at
-// several locations; else only that it is not of the one location that has some.
-fn place(own: bool, m: Memory, p: u16, l: u8, q: Sought) -> u16
-    requires { ⌜ (m .count ≤ 16) × (l < 16) ⌝ }
-    ensures { λ r. ⌜ PlaceCare m p q l r ⌝ }
-{
-    if own {
-        return 1;
-    }
-    let mut e = sought_at(p, q);
-    if 17 <= e {
-        return 1;
-    }
-    let mut u = after(p, 0);
-    while u <= m.count {
-        e = lone(e, m.message_at(u).location);
-        if 17 <= e {
-            return 1;
-        }
-        u = after(p, u);
-    }
-    if e == l {
-        return 1;
-    }
-    if 16 <= e {
-        return 0;
-    }
-    2048 + e as u16
-}
-
-// They rest on the location: of a store, as `place` says; and a store on that its data is not the value of another promise to the location,
-// and, if it may fill the hole, on whether its number is sought.
-pub fn asks(x: Instr, m: Memory, s: Thread, q: Sought, own: bool) -> Cares
+// What a load rests on: its location; or, where that is enough, only that both its location and the other have no message. The operand with
+// the smaller view, which was most likely read earlier, keeps its location.
+fn load_asks(m: Memory, s: Thread, a: Operand, b: Operand, apart: bool) -> Cares
     requires { ⌜ m .count ≤ 16 ⌝ }
-    ensures { λ r. ⌜ Asks x m s q (r .of) × FillsSame x s q (r .of) ⌝ }
+    ensures { λ r. ⌜ ((s' : Thread) → Agreeing (r .of) s s' → LoadsSame apart m s s' a b) ⌝ }
+{
+    let nothing = Cares { of: [0; 8] };
+    let x = value_of(s, a);
+    let y = value_of(s, b);
+    let set = vacancy(m, address_of_sum(x, y), apart);
+    if view_of(s, a) <= view_of(s, b) {
+        return nothing
+            .noting(a, barring(65535))
+            .noting(b, barring(turned(set, x)));
+    }
+    nothing
+        .noting(a, barring(turned(set, y)))
+        .noting(b, barring(65535))
+}
+
+// What a store rests on: its location, or that it is elsewhere; that its data is not the value of another promise to the location; and, if it
+// may fill the hole, whether its number is sought.
+fn store_asks(m: Memory, s: Thread, a: Operand, d: Operand, q: Sought, own: bool) -> Cares
+    requires { ⌜ m .count ≤ 16 ⌝ }
+    ensures { λ r. ⌜ StoreAsks m s a d q (r .of) ⌝ }
+{
+    let nothing = Cares { of: [0; 8] };
+    let l = address(value_of(s, a));
+    let v = value_of(s, d);
+    let kept = nothing
+        .noting(a, barring(place(own, m, s.promises, q)))
+        .noting(d, other_values(m, s.promises, l, v));
+    if !has(s.promises, q.hole) {
+        return kept;
+    }
+    kept.noting(d, unsought(l, v, q) as u32)
+}
+
+// What the tries rest on. Apart: they were made so that they tell of all loads from locations without a message.
+pub fn asks(x: Instr, m: Memory, s: Thread, q: Sought, own: bool, apart: bool) -> Cares
+    requires { ⌜ m .count ≤ 16 ⌝ }
+    ensures { λ r. ⌜ Asks x m s q apart (r .of) ⌝ }
 {
     let nothing = Cares { of: [0; 8] };
     match x {
-        Instr::Load(_, _, a, b) => nothing.noting(a, 1).noting(b, 1),
-        Instr::Store(_, a, d) => {
-            let l = address(value_of(s, a));
-            let v = value_of(s, d);
-            let kept = nothing
-                .noting(a, place(own, m, s.promises, l, q))
-                .noting(d, other_values(m, s.promises, l, v));
-            if !has(s.promises, q.hole) {
-                return kept;
-            }
-            kept.noting(d, unsought(l, v, q))
-        }
+        Instr::Load(_, _, a, b) => load_asks(m, s, a, b, apart),
+        Instr::Store(_, a, d) => store_asks(m, s, a, d, q, own),
         Instr::Compute(_, _, _, _) => nothing,
         Instr::Branch(_, _, _) => nothing,
         Instr::Fence(_) => nothing,

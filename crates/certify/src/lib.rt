@@ -1,6 +1,8 @@
 // Certification of one thread: alone on the memory, by executing instructions, it can reach an empty promise set.
 mod asks;
 mod checked;
+mod idle;
+mod places;
 pub mod reach;
 mod straight;
 pub mod vain;

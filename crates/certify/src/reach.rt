@@ -13,6 +13,8 @@ ghost use Rattle.certify.specs.Sought.{fill, Meets, Owns, Emptied, Twice
 use crate::Met;
 use crate::Sought;
 use crate::asks::asks;
+use crate::idle::idle;
+use crate::idle::lowered;
 use crate::own_message;
 use crate::straight::before_straight;
 use crate::straight::straight;
@@ -20,6 +22,7 @@ use crate::vain::in_vain;
 use crate::window::earliest;
 use crate::window::following;
 use cares::Cares;
+use cares::barring;
 use live::fewer_stores;
 use machine::Memory;
 use machine::Message;
@@ -41,13 +44,15 @@ pub struct Reached {
     pub cares: Cares,
 }
 
-// After some tries of an instruction: the numbers met; how many tries were made, two for more; what they rest on; and for each time at which
-// a load was tried how much of what it left in its register counted, 3 for the others.
+// After some tries of an instruction: the numbers met; how many tries were made, two for more; what they rest on; for each time at which a load
+// was tried how much of what it left in its register counted, 3 for the others; and whether they are apart: the tries of a load of a location
+// without a message tell of those of all such locations.
 pub struct Tried {
     pub met: Met,
     pub tries: u8,
     pub cares: Cares,
-    pub counted: [u16; 17],
+    pub counted: [u32; 17],
+    pub apart: bool,
 }
 
 // More promises are outstanding than stores are left at position n and after it.
@@ -109,7 +114,7 @@ fn hopeless(c: Code, m: Memory, s: Thread, x: Instr, t: u8, p: Tried) -> bool
 
 // Before the first try of an instruction: what is known otherwise.
 fn untried(known: Reached) -> Tried
-    ensures { λ r. ⌜ r ≡ record { met = known .met; tries = 0; cares = known .cares; counted = replicate 17 3 } ⌝ }
+    ensures { λ r. ⌜ r ≡ record { met = known .met; tries = 0; cares = known .cares; counted = replicate 17 3; apart = true } ⌝ }
 {
     let met = known.met;
     let cares = known.cares;
@@ -118,13 +123,14 @@ fn untried(known: Reached) -> Tried
         tries: 0,
         cares: cares,
         counted: [3; 17],
+        apart: true,
     }
 }
 
-// What a try at time t adds to what is known.
-fn noted(x: Instr, t: u8, p: Tried, sub: Reached) -> Tried
+// What a try at time t, which was apart or not, adds to what is known.
+fn noted(x: Instr, t: u8, p: Tried, sub: Reached, apart: bool) -> Tried
     requires { ⌜ t ≤ 16 ⌝ }
-    ensures { λ r. ⌜ Noted x t p sub r ⌝ }
+    ensures { λ r. ⌜ Noted x t p sub apart r ⌝ }
 {
     let before = p.cares;
     let now = sub.cares;
@@ -138,6 +144,7 @@ fn noted(x: Instr, t: u8, p: Tried, sub: Reached) -> Tried
                 tries: smaller(p.tries, 1) + 1,
                 cares: now.forgetting(r).and(before),
                 counted: counted,
+                apart: p.apart & apart,
             }
         }
         Instr::Store(_, _, _) => Tried {
@@ -145,6 +152,7 @@ fn noted(x: Instr, t: u8, p: Tried, sub: Reached) -> Tried
             tries: smaller(p.tries, 1) + 1,
             cares: now.and(before),
             counted: counted,
+            apart: p.apart,
         },
         Instr::Compute(_, _, _, _) => p,
         Instr::Branch(_, _, _) => p,
@@ -241,7 +249,7 @@ fn search_at(c: Code, i: u8, m: Memory, s: Thread, x: Instr, q: Sought) -> Reach
     let rests = own.cares;
     Reached {
         met: met,
-        cares: rests.and(asks(x, m, s, q.after(met), appending)),
+        cares: rests.and(asks(x, m, s, q.after(met), appending, r.apart)),
     }
 }
 
@@ -311,7 +319,8 @@ fn keeps(c: Code, i: u8, m: Memory, s: Thread, x: Instr, t: u8) -> Reached
     search_runs(c, i, m, r.thread, Sought::certified())
 }
 
-// The instruction is executed at time t, and the thread goes on from there; p is known of the tries before.
+// The instruction is executed at time t, and the thread goes on from there; p is known of the tries before. If it is idle then, it goes on with
+// the coherence views of before, so that the try tells of other locations too.
 // Whether that is all is asked here already: most certifications end with the store, and a call copies its arguments.
 fn try_at(c: Code, i: u8, m: Memory, s: Thread, x: Instr, t: u8, p: Tried, q: Sought) -> Tried
     requires { ⌜ Trying c m s x × ((t ≤ 16) × Knows c i m s x q p) ⌝ }
@@ -334,9 +343,14 @@ fn try_at(c: Code, i: u8, m: Memory, s: Thread, x: Instr, t: u8, p: Tried, q: So
             tries: p.tries,
             cares: cares,
             counted: counted,
+            apart: p.apart,
         };
     }
-    noted(x, t, p, search_runs(c, i, m, r.thread, less))
+    if idle(x, m, s, t, r.thread, q.hole) {
+        let y = lowered(r.thread, s);
+        return noted(x, t, p, search_runs(c, i, m, y, less), true);
+    }
+    noted(x, t, p, search_runs(c, i, m, r.thread, less), false)
 }
 
 // A store appends its own message and fulfils it at once, and the thread goes on from there.
@@ -360,7 +374,7 @@ fn own_reached(
     }
     match x {
         Instr::Store(how, a, d) => {
-            let settled = k.noting(a, 1).noting(d, 2);
+            let settled = k.noting(a, barring(65535)).noting(d, 2);
             let r = own_store(how, a, d, m, i, s);
             let answer = r.answer;
             let RuleAnswer::Done = answer else {

@@ -18,7 +18,7 @@ use source::Instr;
 use times::after;
 
 // A try, if it was made (its care is not 3), left no larger view than another leaves, and the same value as far as that counted.
-fn no_better(care: u16, view: u8, value: u8, limit: u8, wanted: u8) -> bool
+fn no_better(care: u32, view: u8, value: u8, limit: u8, wanted: u8) -> bool
     ensures { λ r. ⌜ (r ≡ true → (care ≡ 3 → ⊥) × ((view ≤ limit) × Agrees care value wanted)) ⌝ }
 {
     if care == 3 {
@@ -38,7 +38,7 @@ fn view_by(pair: Forward, t: u8) -> u8
 }
 
 // A time before t was tried with a view no larger than t's and a value that matches.
-fn doubled(m: Memory, s: Thread, l: u8, counted: [u16; 17], t: u8) -> bool
+fn doubled(m: Memory, s: Thread, l: u8, counted: [u32; 17], t: u8) -> bool
     requires { ⌜ (l < 16) × (t ≤ 16) ⌝ }
     ensures { λ r. ⌜ (r ≡ true → Doubled m s l counted t) ⌝ }
 {
@@ -69,7 +69,7 @@ fn doubled(m: Memory, s: Thread, l: u8, counted: [u16; 17], t: u8) -> bool
 }
 
 // Where the tries before t have come to nothing, the try at t comes to nothing too.
-pub fn in_vain(m: Memory, s: Thread, x: Instr, counted: [u16; 17], t: u8) -> bool
+pub fn in_vain(m: Memory, s: Thread, x: Instr, counted: [u32; 17], t: u8) -> bool
     requires { ⌜ t ≤ 16 ⌝ }
     ensures { λ r. ⌜ (r ≡ true → Vain m s x counted t) ⌝ }
 {
@@ -94,7 +94,7 @@ fn left_out(p: u16, u: u8) -> u16
 
 // The times of a set at which a load is worth a try still, after the try at time t has failed: what a later one leaves in the register must
 // differ in what counted, or come with a smaller view.
-pub fn passed_over(later: u16, m: Memory, s: Thread, l: u8, t: u8, care: u16) -> u16
+pub fn passed_over(later: u16, m: Memory, s: Thread, l: u8, t: u8, care: u32) -> u16
     requires { ⌜ (l < 16) × (t ≤ 16) ⌝ }
     ensures { λ r. ⌜ PassedOver m s l t care later r ⌝ }
 {

@@ -68,7 +68,7 @@ pub fn earliest(x: Instr, m: Memory, s: Thread) -> u8
 }
 
 // The time of the next message to l after time t, or 17.
-fn next_message(m: Memory, l: u8, t: u8) -> u8
+pub fn next_message(m: Memory, l: u8, t: u8) -> u8
     requires { ⌜ (m .count ≤ 16) × (t ≤ 16) ⌝ }
     ensures { λ r. ⌜ NextMessage m l t r ⌝ }
 {

@@ -1,23 +1,23 @@
 -- `cares::joined` meets its contract: one case for each way to join.
 -- Assumes nothing.
-use mathlib.Core.Path.{subst}
-use Prim.Native.Nat.{ℕ}
-use Rattle.cares.specs.Cares.{Agrees, same, free}
-use Rattle.cares.proofs.Agreeing.{same-value}
+use native.Mathlib.Omega.{arith}
+use lib.Bits.{or-lt}
+use Rattle.cares.specs.Cares.{same}
+use Rattle.cares.proofs.Agreeing.{value-asked, both-asked}
 use Rattle.cares.proofs.joined.Statement.{statement}
 use Rattle.cares.proofs.joined.Tie as tie
 
+mul-result : tie.Need-mul-result
+mul-result c = let a = c .before .args in let l = or-lt 32 (a .k) (a .l) (omega arith) (omega arith) in omega arith
+
+add-result : tie.Need-add-result
+add-result c = let a = c .before .args in let l = or-lt 32 (a .k) (a .l) (omega arith) (omega arith) in omega arith
+
 returns : tie.Need-returns
-returns c = λ x y a. (a, subst (λ (k : ℕ). Agrees k x y) (c .if1 .taken) a)
+returns c = both-asked (c .before .args .k) (c .before .args .l) (c .if1 .taken)
 
 returns-2 : tie.Need-returns-2
-returns-2 c = λ x y a. (free (c .if2 .taken), a)
-
-returns-3 : tie.Need-returns-3
-returns-3 c = λ x y a. (a, free (c .if3 .taken))
-
-returns-4 : tie.Need-returns-4
-returns-4 c = λ x y a. (same (same-value a), same (same-value a))
+returns-2 c = λ x y a. let e = value-asked (omega arith) a in (same e, same e)
 
 pub joined-spec : {M : Type 1} → statement M
-joined-spec = tie.close (tie.spec returns returns-2 returns-3 returns-4)
+joined-spec = tie.close (tie.spec mul-result add-result returns returns-2)

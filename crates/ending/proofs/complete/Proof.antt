@@ -15,55 +15,42 @@ use borrow.Author.Needs.{needs}
 use Rattle.ending.proofs.complete.Statement.{statement}
 use Rattle.ending.proofs.complete.Tie as tie
 
--- src/outcome.rt:28:35
 element-copy-out-thread-done : tie.Need-element-copy-out-thread-done
 element-copy-out-thread-done c = search needs
 
--- src/outcome.rt:28:47
 element-copy-out-thread-done-2 : tie.Need-element-copy-out-thread-done-2
 element-copy-out-thread-done-2 c = search needs
 
--- src/outcome.rt:28:23
 thread-done-requires : tie.Need-thread-done-requires
 thread-done-requires c κs = search needs
 
--- src/outcome.rt:29:35
 element-copy-out-thread-done-3 : tie.Need-element-copy-out-thread-done-3
 element-copy-out-thread-done-3 c = search needs
 
--- src/outcome.rt:29:47
 element-copy-out-thread-done-4 : tie.Need-element-copy-out-thread-done-4
 element-copy-out-thread-done-4 c = search needs
 
--- src/outcome.rt:29:23
 thread-done-requires-2 : tie.Need-thread-done-requires-2
 thread-done-requires-2 c κs = search needs
 
--- src/outcome.rt:30:35
 element-copy-out-thread-done-5 : tie.Need-element-copy-out-thread-done-5
 element-copy-out-thread-done-5 c = search needs
 
--- src/outcome.rt:30:47
 element-copy-out-thread-done-6 : tie.Need-element-copy-out-thread-done-6
 element-copy-out-thread-done-6 c = search needs
 
--- src/outcome.rt:30:23
 thread-done-requires-3 : tie.Need-thread-done-requires-3
 thread-done-requires-3 c κs = search needs
 
--- src/outcome.rt:31:35
 element-copy-out-thread-done-7 : tie.Need-element-copy-out-thread-done-7
 element-copy-out-thread-done-7 c = search needs
 
--- src/outcome.rt:31:47
 element-copy-out-thread-done-8 : tie.Need-element-copy-out-thread-done-8
 element-copy-out-thread-done-8 c = search needs
 
--- src/outcome.rt:31:23
 thread-done-requires-4 : tie.Need-thread-done-requires-4
 thread-done-requires-4 c κs = search needs
 
--- src/outcome.rt:23:1
 returns : tie.Need-returns
 unfolding complete codeOf
 returns c =

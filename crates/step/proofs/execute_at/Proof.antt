@@ -5,31 +5,24 @@ use borrow.Author.Needs.{needs}
 use Rattle.step.proofs.execute_at.Statement.{statement}
 use Rattle.step.proofs.execute_at.Tie as tie
 
--- src/lib.rt:98:9
 execute-requires : tie.Need-execute-requires
 execute-requires c κs = (reach-small _ _ _ (c .pre .0) _ _ (c .pre .1), c .pre .0 .room)
 
--- src/lib.rt:101:29
 enum-told : tie.Need-enum-told
 enum-told c = search needs
 
--- src/lib.rt:101:29
 settle-requires : tie.Need-settle-requires
 settle-requires c κs = ready-executed _ _ _ (c .before .before .before .pre .0) _ _ _ (c .before .before .execute .ensures) (c .enum-told .given .1)
 
--- src/lib.rt:102:29
 enum-known-answer : tie.Need-enum-known-answer
 enum-known-answer c = search needs
 
--- src/lib.rt:102:35
 stays-requires : tie.Need-stays-requires
 stays-requires c κs = search needs
 
--- src/lib.rt:94:1
 returns : tie.Need-returns
 returns c = execute-done _ _ _ _ _ (c .settle .result) _ (c .before .before .before .before .pre .1) _ (c .before .before .before .execute .ensures) (c .before .enum-told .given .1) (c .settle .ensures)
 
--- src/lib.rt:94:1
 returns-2 : tie.Need-returns-2
 returns-2 c = execute-refused _ _ _ _ _ _ _ (c .before .before .before .before .before .pre .1) _ (c .before .before .before .before .execute .ensures) _ (c .before .before .answer .given .1) (c .stays .ensures)
 

@@ -5,15 +5,12 @@ use borrow.Author.Needs.{needs}
 use Rattle.step.proofs.execute_step.Statement.{statement}
 use Rattle.step.proofs.execute_step.Tie as tie
 
--- src/lib.rt:90:9
 stays-requires : tie.Need-stays-requires
 stays-requires c κs = search needs
 
--- src/lib.rt:90:9
 returns : tie.Need-returns
 returns c = execute-end _ _ _ _ _ _ (c .before .if1 .taken) (c .stays .ensures)
 
--- src/lib.rt:92:21
 instr-at-requires : tie.Need-instr-at-requires
 instr-at-requires c κs = search needs
 

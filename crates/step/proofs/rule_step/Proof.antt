@@ -8,51 +8,39 @@ use borrow.Author.Needs.{needs}
 use Rattle.step.proofs.rule_step.Statement.{statement}
 use Rattle.step.proofs.rule_step.Tie as tie
 
--- src/lib.rt:144:9
 refused-requires : tie.Need-refused-requires
 refused-requires c κs = search needs
 
--- src/lib.rt:144:9
 returns : tie.Need-returns
 returns c = c .refused .ensures ∙ ap (stepped _) (sym (rule-21 _ _ _ (c .before .if1 .taken)))
 
--- src/lib.rt:146:25
 code-of-requires : tie.Need-code-of-requires
 code-of-requires c κs = of-four _ _ (c .before .before .pre) _ (c .if1 .left)
 
--- src/lib.rt:146:49
 thread-of-requires : tie.Need-thread-of-requires
 thread-of-requires c κs = of-four _ _ (c .before .before .before .pre) _ (c .before .if1 .left)
 
--- src/lib.rt:146:9
 thread-step-requires : tie.Need-thread-step-requires
 thread-step-requires c κs = thread-ready _ _ (c .before .before .before .before .pre) _ (c .before .before .if1 .left) _ _ (c .before .code-of .ensures) (c .thread-of .ensures)
 
--- src/lib.rt:150:21
 enum-told : tie.Need-enum-told
 enum-told c = search needs
 
--- src/lib.rt:151:30
 memory-after-requires : tie.Need-memory-after-requires
 memory-after-requires c κs = search needs
 
--- src/lib.rt:151:22
 moved-requires : tie.Need-moved-requires
 moved-requires c κs = of-four _ _ (c .before .before .before .before .before .before .before .before .pre) _ (c .before .before .before .before .before .before .if1 .left)
 
--- src/lib.rt:153:29
 enum-known-answer : tie.Need-enum-known-answer
 enum-known-answer c = search needs
 
--- src/lib.rt:153:35
 refused-requires-2 : tie.Need-refused-requires-2
 refused-requires-2 c κs = search needs
 
--- src/lib.rt:138:1
 returns-2 : tie.Need-returns-2
 returns-2 c = rule-taken _ _ _ (c .before .before .before .before .before .before .before .if1 .left) _ _ _ (c .before .before .before .before .before .before .code-of .ensures) (c .before .before .before .before .before .thread-of .ensures) (c .before .before .before .before .thread-step .ensures) (c .before .before .enum-told .given .1) _ (c .before .memory-after .ensures) _ (c .moved .ensures)
 
--- src/lib.rt:138:1
 returns-3 : tie.Need-returns-3
 returns-3 c = c .refused2 .ensures ∙ rule-refused _ _ _ (c .before .before .before .before .before .before .before .if1 .left) _ _ _ (c .before .before .before .before .before .before .code-of .ensures) (c .before .before .before .before .before .thread-of .ensures) (c .before .before .before .before .thread-step .ensures) _ (c .before .before .answer .given .1)
 

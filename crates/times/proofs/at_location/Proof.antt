@@ -17,27 +17,21 @@ Inv-loop l count messages r₀ t₀ r t = Collected (record { count = count; mes
 abbrev μ-loop : tie.MeasureT-loop
 μ-loop l count messages r₀ t₀ r t = count - t
 
--- src/times.rt:23:5
 loop-holds : tie.Need-loop-holds Inv-loop μ-loop
 loop-holds c = collected-none
 
--- src/times.rt:24:26
 cast-w : tie.Need-cast-w Inv-loop μ-loop
 cast-w c = search needs
 
--- src/times.rt:24:17
 mul-w : tie.Need-mul-w Inv-loop μ-loop
 mul-w c = let l = c .loop-test .taken in let h = c .before .before .before .pre in omega arith
 
--- src/times.rt:24:17
 array-copy-out-w : tie.Need-array-copy-out-w Inv-loop μ-loop
 array-copy-out-w c = let l = c .loop-test .taken in let h = c .before .before .before .pre in omega arith
 
--- src/times.rt:26:25
 add-with : tie.Need-add-with Inv-loop μ-loop
 add-with c = let l = c .before .before .before .loop-test .taken in let h = c .before .before .before .before .before .before .pre in omega arith
 
--- src/times.rt:26:13
 with-requires : tie.Need-with-requires Inv-loop μ-loop
 with-requires c κs =
     let l = c .before .before .before .loop-test .taken in
@@ -46,15 +40,12 @@ with-requires c κs =
     let e : c .before .before .before .before .loop .t + 1 - 1 ≡ c .before .before .before .before .loop .t = omega arith in
     (omega arith, (omega arith, rw e n))
 
--- src/times.rt:28:9
 add-t : tie.Need-add-t Inv-loop μ-loop
 add-t c = let l = c .before .before .before .loop-test .taken in let h = c .before .before .before .before .before .before .pre in omega arith
 
--- src/times.rt:23:5
 loop-less : tie.Need-loop-less Inv-loop μ-loop
 loop-less c = let l = c .before .before .before .loop-test .taken in omega arith
 
--- src/times.rt:23:5
 loop-again : tie.Need-loop-again Inv-loop μ-loop
 loop-again c =
     let m = c .before .before .before .before .before .before .args .m in
@@ -67,7 +58,6 @@ loop-again c =
     (λ w. collected-miss (c .before .before .before .before .loop .inv) e _ (w .1) (w .0 .left))
     (c .if1 .came)
 
--- src/times.rt:15:1
 returns : tie.Need-returns Inv-loop μ-loop
 returns c = collected-all (c .before .loop .inv) (c .loop-test .left)
 

@@ -5,43 +5,33 @@ use borrow.Author.Needs.{needs}
 use Rattle.times.proofs.at_zero.Statement.{statement}
 use Rattle.times.proofs.at_zero.Tie as tie
 
--- src/times.rt:55:34
 enum-told : tie.Need-enum-told
 enum-told c = search needs
 
--- src/times.rt:56:36
 enum-told-2 : tie.Need-enum-told-2
 enum-told-2 c = search needs
 
--- src/times.rt:57:39
 enum-told-3 : tie.Need-enum-told-3
 enum-told-3 c = search needs
 
--- src/times.rt:58:35
 enum-told-4 : tie.Need-enum-told-4
 enum-told-4 c = search needs
 
--- src/times.rt:59:28
 enum-told-5 : tie.Need-enum-told-5
 enum-told-5 c = search needs
 
--- src/times.rt:51:1
 returns : tie.Need-returns
 returns c = rw (c .enum-told .given .1) (store-not-at-0 _ _ _)
 
--- src/times.rt:51:1
 returns-2 : tie.Need-returns-2
 returns-2 c = may-be-at-0 _
 
--- src/times.rt:51:1
 returns-3 : tie.Need-returns-3
 returns-3 c = may-be-at-0 _
 
--- src/times.rt:51:1
 returns-4 : tie.Need-returns-4
 returns-4 c = may-be-at-0 _
 
--- src/times.rt:51:1
 returns-5 : tie.Need-returns-5
 returns-5 c = may-be-at-0 _
 

@@ -8,59 +8,45 @@ use borrow.Author.Needs.{needs}
 use Rattle.times.proofs.later_times.Statement.{statement}
 use Rattle.times.proofs.later_times.Tie as tie
 
--- src/times.rt:39:27
 enum-known-x : tie.Need-enum-known-x
 enum-known-x c = search needs
 
--- src/times.rt:40:36
 value-of-requires : tie.Need-value-of-requires
 value-of-requires c κs = search needs
 
--- src/times.rt:40:52
 value-of-requires-2 : tie.Need-value-of-requires-2
 value-of-requires-2 c κs = search needs
 
--- src/times.rt:40:17
 address-of-sum-requires : tie.Need-address-of-sum-requires
 address-of-sum-requires c κs = search needs
 
--- src/times.rt:41:13
 at-location-requires : tie.Need-at-location-requires
 at-location-requires c κs = search needs
 
--- src/times.rt:43:34
 enum-told : tie.Need-enum-told
 enum-told c = search needs
 
--- src/times.rt:44:39
 enum-told-2 : tie.Need-enum-told-2
 enum-told-2 c = search needs
 
--- src/times.rt:45:35
 enum-told-3 : tie.Need-enum-told-3
 enum-told-3 c = search needs
 
--- src/times.rt:46:28
 enum-told-4 : tie.Need-enum-told-4
 enum-told-4 c = search needs
 
--- src/times.rt:34:1
 returns : tie.Need-returns
 returns c = rw (c .before .before .before .before .before .x .given .1) (load-later _ _ _ _ _ _ _ _ (c .before .address-of-sum .ensures .0 ∙ ap₂ (λ (v w : ℕ). address (v + w)) (c .before .before .before .value-of .ensures) (c .before .before .value-of2 .ensures)) (c .at-location .ensures))
 
--- src/times.rt:34:1
 returns-2 : tie.Need-returns-2
 returns-2 c = rw (c .enum-told .given .1) (store-later _ _ _ _ _)
 
--- src/times.rt:34:1
 returns-3 : tie.Need-returns-3
 returns-3 c = rw (c .enum-told2 .given .1) (compute-later _ _ _ _ _ _)
 
--- src/times.rt:34:1
 returns-4 : tie.Need-returns-4
 returns-4 c = rw (c .enum-told3 .given .1) (branch-later _ _ _ _ _)
 
--- src/times.rt:34:1
 returns-5 : tie.Need-returns-5
 returns-5 c = rw (c .enum-told4 .given .1) (fence-later _ _ _)
 

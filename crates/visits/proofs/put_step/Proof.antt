@@ -9,55 +9,42 @@ use borrow.Author.Needs.{needs}
 use Rattle.visits.proofs.put_step.Statement.{statement}
 use Rattle.visits.proofs.put_step.Tie as tie
 
--- src/visits.rt:22:5
 slice-write-area : tie.Need-slice-write-area
 slice-write-area c = search needs
 
--- src/visits.rt:23:10
 add-area : tie.Need-add-area
 add-area c = search needs
 
--- src/visits.rt:23:5
 slice-write-area-2 : tie.Need-slice-write-area-2
 slice-write-area-2 c = simp length-set (omega arith)
 
--- src/visits.rt:24:10
 add-area-2 : tie.Need-add-area-2
 add-area-2 c = search needs
 
--- src/visits.rt:24:5
 slice-write-area-3 : tie.Need-slice-write-area-3
 slice-write-area-3 c = simp length-set (omega arith)
 
--- src/visits.rt:25:10
 add-area-3 : tie.Need-add-area-3
 add-area-3 c = search needs
 
--- src/visits.rt:25:5
 slice-write-area-4 : tie.Need-slice-write-area-4
 slice-write-area-4 c = simp length-set (omega arith)
 
--- src/visits.rt:26:10
 add-area-4 : tie.Need-add-area-4
 add-area-4 c = search needs
 
--- src/visits.rt:26:5
 slice-write-area-5 : tie.Need-slice-write-area-5
 slice-write-area-5 c = simp length-set (omega arith)
 
--- src/visits.rt:27:10
 add-area-5 : tie.Need-add-area-5
 add-area-5 c = search needs
 
--- src/visits.rt:27:5
 slice-write-area-6 : tie.Need-slice-write-area-6
 slice-write-area-6 c = simp length-set (omega arith)
 
--- src/visits.rt:18:1
 same-length : tie.Need-same-length
 same-length c = simp length-set
 
--- src/visits.rt:18:1
 returns : tie.Need-returns
 returns c =
     let at = c .args .at in

@@ -1,6 +1,6 @@
 -- `cares::before::compute_shares` meets its contract: one case for each mode.
 -- Assumes nothing.
-use Rattle.cares.specs.Cares.{free}
+use Rattle.cares.proofs.Agreeing.{nothing-asked}
 use Rattle.cares.proofs.Results.{is-sum, is-difference, is-exclusive, is-equal, same-equal}
 use borrow.Author.Needs.{needs}
 use Rattle.cares.proofs.before.compute_shares.Statement.{statement}
@@ -10,7 +10,7 @@ both-requires : tie.Need-both-requires
 both-requires c κs = search needs
 
 returns : tie.Need-returns
-returns c = λ x' y' p q. free (c .before .if1 .taken)
+returns c = λ x' y' p q. nothing-asked (c .before .if1 .taken)
 
 sum-shares-requires : tie.Need-sum-shares-requires
 sum-shares-requires c κs = search needs

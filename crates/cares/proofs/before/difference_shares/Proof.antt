@@ -3,22 +3,25 @@
 use mathlib.Core.Path.{refl}
 use native.Mathlib.Omega.{arith}
 use borrow.Author.Tests.{eqb-false, not-true}
-use Rattle.cares.proofs.Results.{same-result, near-difference, other-difference, other-difference-first}
+use Rattle.cares.proofs.Results.{same-result, placed-difference, other-difference, other-difference-first}
 use borrow.Author.Needs.{needs}
 use Rattle.cares.proofs.before.difference_shares.Statement.{statement}
 use Rattle.cares.proofs.before.difference_shares.Tie as tie
 
-add-by-address : tie.Need-add-by-address
-add-by-address c = search needs
+cast-turned : tie.Need-cast-turned
+cast-turned c = search needs
 
-sub-by-address : tie.Need-sub-by-address
-sub-by-address c = search needs
+sub-turned : tie.Need-sub-turned
+sub-turned c = search needs
 
-by-address-requires : tie.Need-by-address-requires
-by-address-requires c κs = search needs
+turned-requires : tie.Need-turned-requires
+turned-requires c κs = search needs
+
+barring-requires : tie.Need-barring-requires
+barring-requires c κs = search needs
 
 returns : tie.Need-returns
-returns c = λ x' y' p q. near-difference (omega arith) (c .before .by-address .ensures (c .if1 .taken)) p q
+returns c = λ x' y' p q. placed-difference (c .before .before .if1 .taken) (c .before .turned .result) (omega arith) (c .before .turned .ensures) (rw (c .barring .ensures) at p) q
 
 both-requires : tie.Need-both-requires
 both-requires c κs = search needs
@@ -43,7 +46,7 @@ add-taken-2 c = search needs
 
 returns-4 : tie.Need-returns-4
 returns-4 c =
-    let a = c .before .before .before .before .before .before .args in
+    let a = c .before .before .before .before .before .args in
     λ x' y' p q. other-difference (c .before .before .before .if2 .left) (let l = c .before .before .if3 .left in omega arith) (eqb-false (a .care) 256 (not-true _ (c .if5 .taken))) refl (omega arith) p q
 
 add-whole : tie.Need-add-whole
@@ -59,9 +62,10 @@ pub difference-shares-spec : {M : Type 1} → statement M
 difference-shares-spec =
     tie.close
     (tie.spec
-    add-by-address
-    sub-by-address
-    by-address-requires
+    cast-turned
+    sub-turned
+    turned-requires
+    barring-requires
     returns
     both-requires
     returns-2

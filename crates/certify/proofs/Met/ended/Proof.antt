@@ -1,25 +1,21 @@
+-- `certify::Met::ended` meets its contract.
+-- Assumes nothing.
 use mathlib.Core.Path.{sym, subst}
 use lib.Dec.{T}
 use Rattle.certify.proofs.Numbers.{none-left}
 use borrow.Author.Needs.{needs}
 use Rattle.certify.proofs.Met.ended.Statement.{statement}
 use Rattle.certify.proofs.Met.ended.Tie as tie
-use Rattle.certify.proofs.Met.ended.Reads as reads
-use Rattle.certify.proofs.Met.ended.Lts as lts
 
--- src/lib.rt:67:13
 returns : tie.Need-returns
 returns c = search needs
 
--- src/lib.rt:70:13
 returns-2 : tie.Need-returns-2
 returns-2 c = λ e. absurd (subst T (sym e) tt)
 
--- src/lib.rt:72:9
 sub-result : tie.Need-sub-result
 sub-result c = search needs
 
--- src/lib.rt:63:5
 returns-3 : tie.Need-returns-3
 returns-3 c = none-left _ _ (c .before .if2 .left)
 

@@ -1,53 +1,42 @@
+-- `certify::asks::unsought` meets its contract: by where the number is, and that of its location's first value.
+-- Assumes nothing.
 use mathlib.Core.Path.{refl}
 use native.Mathlib.Omega.{arith}
-use Rattle.certify.proofs.Places.{unsought-above, unsought-below, unsought-same}
+use Rattle.certify.proofs.Placing.{unsought-above, unsought-below, unsought-same}
 use borrow.Author.Needs.{needs}
 use Rattle.certify.proofs.asks.unsought.Statement.{statement}
 use Rattle.certify.proofs.asks.unsought.Tie as tie
-use Rattle.certify.proofs.asks.unsought.Reads as reads
-use Rattle.certify.proofs.asks.unsought.Lts as lts
 
--- src/asks.rt:40:16
 mul-base : tie.Need-mul-base
 mul-base c = search needs
 
--- src/asks.rt:41:18
 add-number : tie.Need-add-number
 add-number c = search needs
 
--- src/asks.rt:45:13
 returns : tie.Need-returns
 returns c = search needs
 
--- src/asks.rt:47:23
 sub-result : tie.Need-sub-result
 sub-result c = search needs
 
--- src/asks.rt:47:16
 add-result : tie.Need-add-result
 add-result c = search needs
 
--- src/asks.rt:47:9
 returns-2 : tie.Need-returns-2
 returns-2 c = unsought-above _ _ _ _ _ refl refl (c .before .if1 .taken) (c .if2 .left) _ refl (let h = c .before .if1 .taken in let v = c .before .before .fits .v in omega arith)
 
--- src/asks.rt:50:21
 sub-least : tie.Need-sub-least
 sub-least c = search needs
 
--- src/asks.rt:52:13
 returns-3 : tie.Need-returns-3
 returns-3 c = search needs
 
--- src/asks.rt:54:16
 add-result-2 : tie.Need-add-result-2
 add-result-2 c = search needs
 
--- src/asks.rt:54:9
 returns-4 : tie.Need-returns-4
 returns-4 c = unsought-below _ _ _ _ _ refl refl (c .before .before .if3 .taken) _ refl (let h = c .if4 .left in omega arith)
 
--- src/asks.rt:36:1
 returns-5 : tie.Need-returns-5
 returns-5 c = unsought-same _ _ _
 

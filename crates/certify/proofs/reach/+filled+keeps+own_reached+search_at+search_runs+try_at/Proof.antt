@@ -1,6 +1,6 @@
 -- The cycle of `certify::reach::search_runs` meets its contracts: each instruction moves the position on.
 -- Assumes nothing.
-use mathlib.Core.Path.{_≡_, refl, _∙_}
+use mathlib.Core.Path.{_≡_, refl, ap, _∙_}
 use Prim.Native.Nat.{_+_, _-_, _*_, _≤_}
 use native.Mathlib.Nat.{mod-lt}
 use native.Mathlib.Omega.{arith}
@@ -13,13 +13,14 @@ use Rattle.source.proofs.Counts.{there}
 use Rattle.machine.proofs.Cases.{ruled-done}
 use Rattle.machine.proofs.Effects.{effect}
 use Rattle.cares.specs.Cares.{Covers}
+use Rattle.certify.specs.Below.{Thread}
 use Rattle.certify.specs.Sought.{Better, same, Meets, Missed}
-use Rattle.certify.proofs.Trying.{ready-after, ready-own, reach-byte}
+use Rattle.certify.proofs.Trying.{ready-after, ready-lowered, ready-own, reach-byte}
 use Rattle.certify.proofs.Plain.{leads-further, leads-ready}
 use Rattle.certify.proofs.Numbers.{better-on}
 use Rattle.certify.proofs.Finding.{covers-self, covers-on}
 use Rattle.certify.proofs.Filling.{fill-no-hole, fill-none, fill-unsought, fill-here, fill-fails, alone-kept, alone-lost, hole-time, trying-filled, keeps-refused, keeps-done}
-use Rattle.certify.proofs.Missing.{knows-none, missed-none, missed-on, went-refused, went-hopeless, went-found, went-on}
+use Rattle.certify.proofs.Missing.{knows-none, missed-none, missed-on, went-refused, went-hopeless, went-found, went-on, went-apart}
 use Rattle.certify.proofs.Owning.{owns-none, owns-untried, owns-stuck, owns-goes}
 use Rattle.certify.proofs.Reaching.{reach-end, reach-ended, fills-meets, tried-meets, owns-meets, reach-all, straight-kept, straight-ended, straight-found, further-by, further-own}
 use Prim.Native.Nat.{ℕ, _<_}
@@ -45,12 +46,15 @@ use Rattle.certify.proofs.reach.try_at.Kinds as try-at-kinds
 use Rattle.certify.proofs.reach.+filled+keeps+own_reached+search_at+search_runs+try_at.Lts-try_at as try-at-lts
 use Rattle.cares.proofs.Cares.and.Reads as and-reads
 use Rattle.cares.proofs.Cares.noting.Reads as noting-reads
+use Rattle.cares.proofs.barring.Reads as barring-reads
 use Rattle.certify.proofs.Met.ended.Reads as ended-reads
 use Rattle.certify.proofs.Met.with.Reads as with-reads
 use Rattle.certify.proofs.Sought.after.Reads as after-reads
 use Rattle.certify.proofs.Sought.certified.Reads as certified-reads
 use Rattle.certify.proofs.Sought.seeks.Reads as seeks-reads
 use Rattle.certify.proofs.asks.asks.Reads as asks-reads
+use Rattle.certify.proofs.idle.idle.Reads as idle-reads
+use Rattle.certify.proofs.idle.lowered.Reads as lowered-reads
 use Rattle.certify.proofs.own_message.Reads as own-message-reads
 use Rattle.certify.proofs.reach.appends.Reads as appends-reads
 use Rattle.certify.proofs.reach.emptied.Reads as emptied-reads
@@ -143,7 +147,7 @@ abbrev keeps-claims : ℕ → keeps-lts.Claims
 keeps-claims t = (execute-reads.Asked, execute-reads.Learnt, certified-reads.Asked, certified-reads.Learnt, search-runs-below t, search-runs.Post)
 
 abbrev own-reached-claims : ℕ → own-reached-lts.Claims
-own-reached-claims t = (noting-reads.Asked, noting-reads.Learnt, own-store-reads.Asked, own-store-reads.Learnt, own-message-reads.Asked, own-message-reads.Learnt, append-reads.Asked, append-reads.Learnt, search-runs-below t, search-runs.Post, and-reads.Asked, and-reads.Learnt)
+own-reached-claims t = (barring-reads.Asked, barring-reads.Learnt, noting-reads.Asked, noting-reads.Learnt, own-store-reads.Asked, own-store-reads.Learnt, own-message-reads.Asked, own-message-reads.Learnt, append-reads.Asked, append-reads.Learnt, search-runs-below t, search-runs.Post, and-reads.Asked, and-reads.Learnt)
 
 abbrev search-at-claims : ℕ → search-at-lts.Claims
 search-at-claims t = (earliest-reads.Asked, earliest-reads.Learnt, filled-below t, filled.Post, untried-reads.Asked, untried-reads.Learnt, try-at-below t, try-at.Post, ended-reads.Asked, ended-reads.Learnt, following-reads.Asked, following-reads.Learnt, appends-reads.Asked, appends-reads.Learnt, after-reads.Asked, after-reads.Learnt, own-reached-below t, own-reached.Post, asks-reads.Asked, asks-reads.Learnt, and-reads.Asked, and-reads.Learnt)
@@ -152,7 +156,7 @@ abbrev search-runs-claims : ℕ → search-runs-lts.Claims
 search-runs-claims t = (straight-reads.Asked, straight-reads.Learnt, kept-reads.Asked, kept-reads.Learnt, emptied-reads.Asked, emptied-reads.Learnt, before-straight-reads.Asked, before-straight-reads.Learnt, instr-at-reads.Asked, instr-at-reads.Learnt, search-at-below t, search-at.Post, ended-reads.Asked, ended-reads.Learnt)
 
 abbrev try-at-claims : ℕ → try-at-lts.Claims
-try-at-claims t = (hopeless-reads.Asked, hopeless-reads.Learnt, execute-reads.Asked, execute-reads.Learnt, after-reads.Asked, after-reads.Learnt, kept-reads.Asked, kept-reads.Learnt, emptied-reads.Asked, emptied-reads.Learnt, search-runs-below t, search-runs.Post, noted-reads.Asked, noted-reads.Learnt)
+try-at-claims t = (hopeless-reads.Asked, hopeless-reads.Learnt, execute-reads.Asked, execute-reads.Learnt, after-reads.Asked, after-reads.Learnt, kept-reads.Asked, kept-reads.Learnt, emptied-reads.Asked, emptied-reads.Learnt, idle-reads.Asked, idle-reads.Learnt, lowered-reads.Asked, lowered-reads.Learnt, search-runs-below t, search-runs.Post, noted-reads.Asked, noted-reads.Learnt)
 
 places : (t : ℕ) (c : filled-lts.Start (filled-claims t) (filled-at t) filled.Post) → length (c .args .m .messages) ≡ 16
 places t c = search length-mapped depth 7
@@ -268,6 +272,9 @@ own-reached-returns t c = (owns-untried _ _ _ _ _ (c .before .before .args .q) _
 own-reached-enum-known-x : (t : ℕ) → own-reached-lts.Need-enum-known-x (own-reached-claims t) (own-reached-at t) own-reached.Post
 own-reached-enum-known-x t c = search needs
 
+own-reached-barring-requires : (t : ℕ) → own-reached-lts.Need-barring-requires (own-reached-claims t) (own-reached-at t) own-reached.Post
+own-reached-barring-requires t c κs = search needs
+
 own-reached-noting-requires : (t : ℕ) → own-reached-lts.Need-noting-requires (own-reached-claims t) (own-reached-at t) own-reached.Post
 own-reached-noting-requires t c κs = search needs
 
@@ -275,7 +282,7 @@ own-reached-noting-requires-2 : (t : ℕ) → own-reached-lts.Need-noting-requir
 own-reached-noting-requires-2 t c κs = search needs
 
 own-reached-own-store-requires : (t : ℕ) → own-reached-lts.Need-own-store-requires (own-reached-claims t) (own-reached-at t) own-reached.Post
-own-reached-own-store-requires t c κs = let w = c .before .before .before .before .before .before .before .pre .1 .0 in let h = reach-byte _ _ _ _ w in let l = w .ready .code-ok .short in let q = rw (c .before .before .before .x .given .1) at h in (omega arith, (c .before .before .before .before .before .before .before .pre .1 .1 .room (not-false _ (c .before .before .before .before .before .if1 .left)), w .ready .promises-in))
+own-reached-own-store-requires t c κs = let w = c .before .before .before .before .before .before .before .before .pre .1 .0 in let h = reach-byte _ _ _ _ w in let l = w .ready .code-ok .short in let q = rw (c .before .before .before .before .x .given .1) at h in (omega arith, (c .before .before .before .before .before .before .before .before .pre .1 .1 .room (not-false _ (c .before .before .before .before .before .before .if1 .left)), w .ready .promises-in))
 
 own-reached-enum-told : (t : ℕ) → own-reached-lts.Need-enum-told (own-reached-claims t) (own-reached-at t) own-reached.Post
 own-reached-enum-told t c = search needs
@@ -284,16 +291,16 @@ own-reached-enum-told-2 : (t : ℕ) → own-reached-lts.Need-enum-told-2 (own-re
 own-reached-enum-told-2 t c = search needs
 
 own-reached-returns-2 : (t : ℕ) → own-reached-lts.Need-returns-2 (own-reached-claims t) (own-reached-at t) own-reached.Post
-own-reached-returns-2 t c = (owns-stuck _ _ _ _ _ (c .before .before .before .before .before .before .before .before .before .before .args .q) (c .before .before .before .before .before .before .before .before .before .before .args .k) _ _ _ (c .before .before .before .before .before .before .x .given .1) (c .before .before .before .before .before .before .before .before .before .before .pre .1 .1 .room (not-false _ (c .before .before .before .before .before .before .before .before .if1 .left))) _ (c .before .before .own-store .ensures) _ (λ v w g. c .before .before .before .before .noting .ensures v w (c .before .before .before .noting2 .ensures v w g .0) .1) (λ v w g. c .before .before .before .noting2 .ensures v w g .1) _ (c .enum-told2 .given .1), record { agreeing = λ v w g. c .before .before .before .before .noting .ensures v w (c .before .before .before .noting2 .ensures v w g .0) .0 })
+own-reached-returns-2 t c = (owns-stuck _ _ _ _ _ (c .before .before .before .before .before .before .before .before .before .before .before .args .q) (c .before .before .before .before .before .before .before .before .before .before .before .args .k) _ _ _ (c .before .before .before .before .before .before .before .x .given .1) (c .before .before .before .before .before .before .before .before .before .before .before .pre .1 .1 .room (not-false _ (c .before .before .before .before .before .before .before .before .before .if1 .left))) _ (c .before .before .own-store .ensures) _ (λ v w g. rw (c .before .before .before .before .before .barring .ensures) at (c .before .before .before .before .noting .ensures v w (c .before .before .before .noting2 .ensures v w g .0) .1)) (λ v w g. c .before .before .before .noting2 .ensures v w g .1) _ (c .enum-told2 .given .1), record { agreeing = λ v w g. c .before .before .before .before .noting .ensures v w (c .before .before .before .noting2 .ensures v w g .0) .0 })
 
 own-reached-own-message-requires : (t : ℕ) → own-reached-lts.Need-own-message-requires (own-reached-claims t) (own-reached-at t) own-reached.Post
 own-reached-own-message-requires t c κs = search needs
 
 own-reached-append-requires : (t : ℕ) → own-reached-lts.Need-append-requires (own-reached-claims t) (own-reached-at t) own-reached.Post
-own-reached-append-requires t c κs = c .before .before .before .before .before .before .before .before .before .before .before .pre .1 .1 .room (not-false _ (c .before .before .before .before .before .before .before .before .before .if1 .left))
+own-reached-append-requires t c κs = c .before .before .before .before .before .before .before .before .before .before .before .before .pre .1 .1 .room (not-false _ (c .before .before .before .before .before .before .before .before .before .before .if1 .left))
 
 own-reached-search-runs-requires : (t : ℕ) → own-reached-lts.Need-search-runs-requires (own-reached-claims t) (own-reached-at t) own-reached.Post
-own-reached-search-runs-requires t c κs = let f = further-own _ _ _ _ (c .before .before .before .before .before .before .before .before .before .before .before .before .pre .1 .0) _ _ _ (c .before .before .before .before .before .before .before .before .x .given .1) _ _ (c .before .before .before .before .own-store .ensures) (c .before .before .enum-told .given .1) in (omega (arith, c .before .before .before .before .before .before .before .before .before .before .before .before .pre .0), rw (c .append .ensures, c .before .own-message .ensures) (ready-own _ _ _ _ _ (c .before .before .before .before .before .before .before .before .before .before .before .before .pre .1 .0 .ready) (c .before .before .before .before .before .before .before .before .before .before .before .before .pre .1 .1 .room (not-false _ (c .before .before .before .before .before .before .before .before .before .before .if1 .left))) (ruled-done _ _ _ (c .before .before .before .before .own-store .ensures) (c .before .before .enum-told .given .1))))
+own-reached-search-runs-requires t c κs = let f = further-own _ _ _ _ (c .before .before .before .before .before .before .before .before .before .before .before .before .before .pre .1 .0) _ _ _ (c .before .before .before .before .before .before .before .before .before .x .given .1) _ _ (c .before .before .before .before .own-store .ensures) (c .before .before .enum-told .given .1) in (omega (arith, c .before .before .before .before .before .before .before .before .before .before .before .before .before .pre .0), rw (c .append .ensures, c .before .own-message .ensures) (ready-own _ _ _ _ _ (c .before .before .before .before .before .before .before .before .before .before .before .before .before .pre .1 .0 .ready) (c .before .before .before .before .before .before .before .before .before .before .before .before .before .pre .1 .1 .room (not-false _ (c .before .before .before .before .before .before .before .before .before .before .before .if1 .left))) (ruled-done _ _ _ (c .before .before .before .before .own-store .ensures) (c .before .before .enum-told .given .1))))
 
 own-reached-and-requires : (t : ℕ) → own-reached-lts.Need-and-requires (own-reached-claims t) (own-reached-at t) own-reached.Post
 own-reached-and-requires t c κs = search needs
@@ -311,7 +318,7 @@ own-reached-enum-told-6 : (t : ℕ) → own-reached-lts.Need-enum-told-6 (own-re
 own-reached-enum-told-6 t c = search needs
 
 own-reached-returns-3 : (t : ℕ) → own-reached-lts.Need-returns-3 (own-reached-claims t) (own-reached-at t) own-reached.Post
-own-reached-returns-3 t c = (owns-goes _ _ _ _ _ (c .before .before .before .before .before .before .before .before .before .before .before .before .before .before .before .before .args .q) (c .before .before .before .before .before .before .before .before .before .before .before .before .before .before .before .before .args .k) _ _ _ (c .before .before .before .before .before .before .before .before .before .before .before .before .x .given .1) (c .before .before .before .before .before .before .before .before .before .before .before .before .before .before .before .before .pre .1 .1 .room (not-false _ (c .before .before .before .before .before .before .before .before .before .before .before .before .before .before .if1 .left))) _ (c .before .before .before .before .before .before .before .before .own-store .ensures) _ (λ v w g. c .before .before .before .before .before .before .before .before .before .before .noting .ensures v w (c .before .before .before .before .before .before .before .before .before .noting2 .ensures v w g .0) .1) (λ v w g. c .before .before .before .before .before .before .before .before .before .noting2 .ensures v w g .1) _ (rw (c .before .before .before .before .append .ensures, c .before .before .before .before .before .own-message .ensures)) (c .before .before .before .before .before .before .enum-told .given .1) _ (c .before .before .before .search-runs .ensures) _ (c .and .ensures .0) (c .and .ensures .1), covers-on (c .and .ensures .1) (record { agreeing = λ v w g. c .before .before .before .before .before .before .before .before .before .before .noting .ensures v w (c .before .before .before .before .before .before .before .before .before .noting2 .ensures v w g .0) .0 }))
+own-reached-returns-3 t c = (owns-goes _ _ _ _ _ (c .before .before .before .before .before .before .before .before .before .before .before .before .before .before .before .before .before .args .q) (c .before .before .before .before .before .before .before .before .before .before .before .before .before .before .before .before .before .args .k) _ _ _ (c .before .before .before .before .before .before .before .before .before .before .before .before .before .x .given .1) (c .before .before .before .before .before .before .before .before .before .before .before .before .before .before .before .before .before .pre .1 .1 .room (not-false _ (c .before .before .before .before .before .before .before .before .before .before .before .before .before .before .before .if1 .left))) _ (c .before .before .before .before .before .before .before .before .own-store .ensures) _ (λ v w g. rw (c .before .before .before .before .before .before .before .before .before .before .before .barring .ensures) at (c .before .before .before .before .before .before .before .before .before .before .noting .ensures v w (c .before .before .before .before .before .before .before .before .before .noting2 .ensures v w g .0) .1)) (λ v w g. c .before .before .before .before .before .before .before .before .before .noting2 .ensures v w g .1) _ (rw (c .before .before .before .before .append .ensures, c .before .before .before .before .before .own-message .ensures)) (c .before .before .before .before .before .before .enum-told .given .1) _ (c .before .before .before .search-runs .ensures) _ (c .and .ensures .0) (c .and .ensures .1), covers-on (c .and .ensures .1) (record { agreeing = λ v w g. c .before .before .before .before .before .before .before .before .before .before .noting .ensures v w (c .before .before .before .before .before .before .before .before .before .noting2 .ensures v w g .0) .0 }))
 
 own-reached-returns-4 : (t : ℕ) → own-reached-lts.Need-returns-4 (own-reached-claims t) (own-reached-at t) own-reached.Post
 own-reached-returns-4 t c = (owns-none _ _ _ _ _ (c .before .before .before .before .args .q) _ (λ y. rw (c .enum-told3 .given .1)), covers-self _)
@@ -454,14 +461,29 @@ try-at-emptied-requires t c κs = search needs
 try-at-returns-3 : (t : ℕ) → try-at-lts.Need-returns-3 (try-at-claims t) (try-at-at t) try-at.Post
 try-at-returns-3 t c = went-found _ _ _ _ _ _ _ _ (c .before .before .before .before .before .before .before .before .before .before .before .pre .1 .1 .1) _ (ruled-done _ _ _ (c .before .before .before .before .before .before .before .before .execute .ensures) (c .before .before .before .before .before .before .enum-told .given .1)) (c .before .before .before .before .kept .ensures .0 (c .before .before .before .if2 .taken)) _ (rw (c .before .before .before .before .before .after .ensures) at (c .emptied .ensures))
 
+try-at-idle-requires : (t : ℕ) → try-at-lts.Need-idle-requires (try-at-claims t) (try-at-at t) try-at.Post
+try-at-idle-requires t c κs = c .before .before .before .before .before .before .before .before .pre .1 .0 .ready .room
+
+try-at-lowered-requires : (t : ℕ) → try-at-lts.Need-lowered-requires (try-at-claims t) (try-at-at t) try-at.Post
+try-at-lowered-requires t c κs = search needs
+
 try-at-search-runs-requires : (t : ℕ) → try-at-lts.Need-search-runs-requires (try-at-claims t) (try-at-at t) try-at.Post
-try-at-search-runs-requires t c κs = let d = ruled-done _ _ _ (c .before .before .before .before .before .execute .ensures) (c .before .before .before .enum-told .given .1) in let f = further-by _ _ _ _ (c .before .before .before .before .before .before .before .before .pre .1 .0) _ _ d in (omega (arith, c .before .before .before .before .before .before .before .before .pre .0), ready-after (c .before .before .before .before .before .before .before .before .pre .1 .0 .ready) (effect _ _ _ _ _ d))
+try-at-search-runs-requires t c κs = let d = ruled-done _ _ _ (c .before .before .before .before .before .before .before .before .execute .ensures) (c .before .before .before .before .before .before .enum-told .given .1) in let f = further-by _ _ _ _ (c .before .before .before .before .before .before .before .before .before .before .before .pre .1 .0) _ _ d in let at = ap (λ (v : Thread). v .position) (c .lowered .ensures) in (omega (arith, c .before .before .before .before .before .before .before .before .before .before .before .pre .0), ready-lowered (ready-after (c .before .before .before .before .before .before .before .before .before .before .before .pre .1 .0 .ready) (effect _ _ _ _ _ d)) (c .lowered .ensures))
 
 try-at-noted-requires : (t : ℕ) → try-at-lts.Need-noted-requires (try-at-claims t) (try-at-at t) try-at.Post
-try-at-noted-requires t c κs = c .before .before .before .before .before .before .before .before .before .pre .1 .1 .0
+try-at-noted-requires t c κs = c .before .before .before .before .before .before .before .before .before .before .before .before .pre .1 .1 .0
 
 try-at-returns-4 : (t : ℕ) → try-at-lts.Need-returns-4 (try-at-claims t) (try-at-at t) try-at.Post
-try-at-returns-4 t c = went-on _ _ _ _ _ _ _ _ (c .before .before .before .before .before .before .before .before .before .before .pre .1 .1 .1) _ (ruled-done _ _ _ (c .before .before .before .before .before .before .before .execute .ensures) (c .before .before .before .before .before .enum-told .given .1)) _ (rw (c .before .before .before .before .after .ensures) at (c .before .search-runs .ensures)) _ (c .noted .ensures)
+try-at-returns-4 t c = went-apart _ _ _ _ _ _ _ _ (c .before .before .before .before .before .before .before .before .before .before .before .before .before .pre .1 .1 .1) _ (ruled-done _ _ _ (c .before .before .before .before .before .before .before .before .before .before .execute .ensures) (c .before .before .before .before .before .before .before .before .enum-told .given .1)) (c .before .before .before .before .idle .ensures (c .before .before .before .if3 .taken)) _ (c .before .before .lowered .ensures) _ (rw (c .before .before .before .before .before .before .before .after .ensures) at (c .before .search-runs .ensures)) _ (c .noted .ensures)
+
+try-at-search-runs-requires-2 : (t : ℕ) → try-at-lts.Need-search-runs-requires-2 (try-at-claims t) (try-at-at t) try-at.Post
+try-at-search-runs-requires-2 t c κs = let d = ruled-done _ _ _ (c .before .before .before .before .before .before .before .execute .ensures) (c .before .before .before .before .before .enum-told .given .1) in let f = further-by _ _ _ _ (c .before .before .before .before .before .before .before .before .before .before .pre .1 .0) _ _ d in (omega (arith, c .before .before .before .before .before .before .before .before .before .before .pre .0), ready-after (c .before .before .before .before .before .before .before .before .before .before .pre .1 .0 .ready) (effect _ _ _ _ _ d))
+
+try-at-noted-requires-2 : (t : ℕ) → try-at-lts.Need-noted-requires-2 (try-at-claims t) (try-at-at t) try-at.Post
+try-at-noted-requires-2 t c κs = c .before .before .before .before .before .before .before .before .before .before .before .pre .1 .1 .0
+
+try-at-returns-5 : (t : ℕ) → try-at-lts.Need-returns-5 (try-at-claims t) (try-at-at t) try-at.Post
+try-at-returns-5 t c = went-on _ _ _ _ _ _ _ _ (c .before .before .before .before .before .before .before .before .before .before .before .before .pre .1 .1 .1) _ (ruled-done _ _ _ (c .before .before .before .before .before .before .before .before .before .execute .ensures) (c .before .before .before .before .before .before .before .enum-told .given .1)) _ (rw (c .before .before .before .before .before .before .after .ensures) at (c .before .search-runs2 .ensures)) _ (c .noted2 .ensures)
 
 pub +filled+keeps+own-reached+search-at+search-runs+try-at-spec : {M : Type 1} → statement M
 +filled+keeps+own-reached+search-at+search-runs+try-at-spec =
@@ -508,6 +530,7 @@ pub +filled+keeps+own-reached+search-at+search-runs+try-at-spec : {M : Type 1} �
     own-reached.Post
     (own-reached-returns t)
     (own-reached-enum-known-x t)
+    (own-reached-barring-requires t)
     (own-reached-noting-requires t)
     (own-reached-noting-requires-2 t)
     (own-reached-own-store-requires t)
@@ -576,6 +599,11 @@ pub +filled+keeps+own-reached+search-at+search-runs+try-at-spec : {M : Type 1} �
     (try-at-kept-requires t)
     (try-at-emptied-requires t)
     (try-at-returns-3 t)
+    (try-at-idle-requires t)
+    (try-at-lowered-requires t)
     (try-at-search-runs-requires t)
     (try-at-noted-requires t)
     (try-at-returns-4 t)
+    (try-at-search-runs-requires-2 t)
+    (try-at-noted-requires-2 t)
+    (try-at-returns-5 t)

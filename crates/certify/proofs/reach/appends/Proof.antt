@@ -2,7 +2,7 @@
 -- Assumes nothing.
 use mathlib.Core.Path.{ap}
 use borrow.Author.Needs.{needs}
-use Rattle.certify.proofs.Places.{stores, appends-full, appends-fit, appends-not}
+use Rattle.certify.proofs.Placing.{stores, appends-full, appends-fit, appends-not}
 use Rattle.certify.proofs.reach.appends.Statement.{statement}
 use Rattle.certify.proofs.reach.appends.Tie as tie
 

@@ -1,25 +1,21 @@
+-- `certify::reach::emptied` meets its contract.
+-- Assumes nothing.
 use mathlib.Core.Path.{refl}
 use borrow.Author.Needs.{needs}
 use Rattle.certify.proofs.reach.emptied.Statement.{statement}
 use Rattle.certify.proofs.reach.emptied.Tie as tie
-use Rattle.certify.proofs.reach.emptied.Reads as reads
-use Rattle.certify.proofs.reach.emptied.Lts as lts
 use Rattle.certify.proofs.Met.with.Reads as with-reads
 use Rattle.certify.proofs.Sought.seeks.Reads as seeks-reads
 
--- src/reach.rt:76:8
 seeks-requires : tie.Need-seeks-requires
 seeks-requires c κs = search needs
 
--- src/reach.rt:77:9
 with-requires : tie.Need-with-requires
 with-requires c κs = search needs
 
--- src/reach.rt:77:9
 returns : tie.Need-returns
 returns c = record { new = λ s. c .with .ensures; old = λ n. absurd (n (c .before .before .seeks .ensures .0 (c .before .if1 .taken))) }
 
--- src/reach.rt:72:1
 returns-2 : tie.Need-returns-2
 returns-2 c = record { new = λ s. absurd (c .before .seeks .ensures .1 (c .if1 .left) s); old = λ n. refl }
 

@@ -1,22 +1,19 @@
+-- `certify::reach::kept` meets its contract.
+-- Assumes nothing.
 use mathlib.Core.Path.{sym, subst}
 use lib.Dec.{T}
 use Rattle.certify.proofs.Numbers.{is-kept}
 use borrow.Author.Needs.{needs}
 use Rattle.certify.proofs.reach.kept.Statement.{statement}
 use Rattle.certify.proofs.reach.kept.Tie as tie
-use Rattle.certify.proofs.reach.kept.Reads as reads
-use Rattle.certify.proofs.reach.kept.Lts as lts
 use Rattle.machine.proofs.promises.is_empty.Reads as is-empty-reads
 
--- src/reach.rt:66:9
 returns : tie.Need-returns
 returns c = (λ e. absurd (subst T (sym e) tt), λ e z. absurd (c .if1 .taken z))
 
--- src/reach.rt:68:5
 is-empty-requires : tie.Need-is-empty-requires
 is-empty-requires c κs = search needs
 
--- src/reach.rt:62:1
 returns-2 : tie.Need-returns-2
 returns-2 c = is-kept _ _ _ (c .before .if1 .left) (c .is-empty .ensures)
 

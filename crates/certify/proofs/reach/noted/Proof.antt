@@ -22,8 +22,8 @@ array-write-counted c = search needs
 smaller-requires : tie.Need-smaller-requires
 smaller-requires c κs = search needs
 
-add-t17 : tie.Need-add-t17
-add-t17 c = search needs
+add-t18 : tie.Need-add-t18
+add-t18 c = search needs
 
 forgetting-requires : tie.Need-forgetting-requires
 forgetting-requires c κs = search needs
@@ -37,8 +37,8 @@ enum-told c = search needs
 smaller-requires-2 : tie.Need-smaller-requires-2
 smaller-requires-2 c κs = search needs
 
-add-t22 : tie.Need-add-t22
-add-t22 c = search needs
+add-t24 : tie.Need-add-t24
+add-t24 c = search needs
 
 and-requires-2 : tie.Need-and-requires-2
 and-requires-2 c κs = search needs
@@ -53,19 +53,19 @@ enum-told-4 : tie.Need-enum-told-4
 enum-told-4 c = search needs
 
 returns : tie.Need-returns
-returns c = noted-load _ _ _ _ _ _ _ _ _ (c .before .before .before .before .before .x .given .1) _ (c .before .before .before .of-register .ensures) (c .before .forgetting .result) (c .before .forgetting .ensures) _ (c .and .ensures)
+returns c = noted-load _ _ _ _ _ _ _ _ _ _ (c .before .before .before .before .before .before .x .given .1) _ (c .before .before .before .before .of-register .ensures) (c .before .before .forgetting .result) (c .before .before .forgetting .ensures) _ (c .before .and .ensures)
 
 returns-2 : tie.Need-returns-2
-returns-2 c = noted-store _ _ _ _ _ _ _ _ (c .before .before .enum-told .given .1) _ (c .and2 .ensures)
+returns-2 c = noted-store _ _ _ _ _ _ _ _ _ (c .before .before .enum-told .given .1) _ (c .and2 .ensures)
 
 returns-3 : tie.Need-returns-3
-returns-3 c = noted-other _ _ _ _ (ap is-tried (c .enum-told2 .given .1))
+returns-3 c = noted-other _ _ _ _ _ (ap is-tried (c .enum-told2 .given .1))
 
 returns-4 : tie.Need-returns-4
-returns-4 c = noted-other _ _ _ _ (ap is-tried (c .enum-told3 .given .1))
+returns-4 c = noted-other _ _ _ _ _ (ap is-tried (c .enum-told3 .given .1))
 
 returns-5 : tie.Need-returns-5
-returns-5 c = noted-other _ _ _ _ (ap is-tried (c .enum-told4 .given .1))
+returns-5 c = noted-other _ _ _ _ _ (ap is-tried (c .enum-told4 .given .1))
 
 pub noted-spec : {M : Type 1} → statement M
 noted-spec =
@@ -76,12 +76,12 @@ noted-spec =
     mul-counted
     array-write-counted
     smaller-requires
-    add-t17
+    add-t18
     forgetting-requires
     and-requires
     enum-told
     smaller-requires-2
-    add-t22
+    add-t24
     and-requires-2
     enum-told-2
     enum-told-3

@@ -12,63 +12,48 @@ Inv-loop trace n k₀ k = (6 * n ≤ length trace) × (k ≤ n)
 abbrev μ-loop : tie.MeasureT-loop
 μ-loop trace n k₀ k = n - k
 
--- src/answers.rt:40:5
 loop-holds : tie.Need-loop-holds Inv-loop μ-loop
 loop-holds c = search needs
 
--- src/answers.rt:41:18
 mul-at : tie.Need-mul-at Inv-loop μ-loop
 mul-at c = search needs
 
--- src/answers.rt:42:20
 add-step : tie.Need-add-step Inv-loop μ-loop
 add-step c = search needs
 
--- src/answers.rt:42:14
 shared-slice-read-step : tie.Need-shared-slice-read-step Inv-loop μ-loop
 shared-slice-read-step c = search needs
 
--- src/answers.rt:42:35
 add-step-2 : tie.Need-add-step-2 Inv-loop μ-loop
 add-step-2 c = search needs
 
--- src/answers.rt:42:29
 shared-slice-read-step-2 : tie.Need-shared-slice-read-step-2 Inv-loop μ-loop
 shared-slice-read-step-2 c = search needs
 
--- src/answers.rt:42:50
 add-step-3 : tie.Need-add-step-3 Inv-loop μ-loop
 add-step-3 c = search needs
 
--- src/answers.rt:42:44
 shared-slice-read-step-3 : tie.Need-shared-slice-read-step-3 Inv-loop μ-loop
 shared-slice-read-step-3 c = search needs
 
--- src/answers.rt:42:65
 add-step-4 : tie.Need-add-step-4 Inv-loop μ-loop
 add-step-4 c = search needs
 
--- src/answers.rt:42:59
 shared-slice-read-step-4 : tie.Need-shared-slice-read-step-4 Inv-loop μ-loop
 shared-slice-read-step-4 c = search needs
 
--- src/answers.rt:42:9
 step-requires : tie.Need-step-requires Inv-loop μ-loop
 step-requires c κs = search needs
 
--- src/answers.rt:40:9
 add-k : tie.Need-add-k Inv-loop μ-loop
 add-k c = search needs
 
--- src/answers.rt:40:5
 loop-less : tie.Need-loop-less Inv-loop μ-loop
 loop-less c = search needs
 
--- src/answers.rt:40:5
 loop-again : tie.Need-loop-again Inv-loop μ-loop
 loop-again c = search needs
 
--- src/answers.rt:37:1
 returns : tie.Need-returns Inv-loop μ-loop
 returns c = search needs
 

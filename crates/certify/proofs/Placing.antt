@@ -3,21 +3,23 @@
 use mathlib.Core.Path.{_≡_, sym, ap, subst, _∙_}
 use mathlib.Core.Logic.{⊎-elim, inl, inr}
 use mathlib.Core.Bool.{Bool, true, false, not}
-use Prim.Native.Nat.{ℕ, _+_, _-_, _*_, _≤_, _<_}
+use Prim.Native.Nat.{ℕ, _+_, _-_, _*_, _%_, _≤_, _<_}
 use native.Mathlib.Decide.{decLt}
-use native.Mathlib.Nat.{mod-lt}
 use native.Mathlib.Omega.{arith}
 use lib.Count.{ones}
-use lib.Dec.{T, lit<, ltb}
+use lib.Dec.{T, ltb, lt→ltb}
 use borrow.Author.Tests.{not-false}
 use Rattle.source.specs.Counts.{storesFrom}
+use Rattle.source.proofs.Tests.{and-both, eq→eqb}
 use Rattle.machine.specs.State.{messageAt, has}
-use Rattle.machine.specs.Rules.{address}
 use Rattle.machine.proofs.Sets.{has-positive}
 use Rattle.times.specs.Times.{After}
-use Rattle.cares.proofs.Agreeing.{same-value, same-address, not-less, less, not-there}
+use Rattle.cares.specs.Cares.{Marked}
+use Rattle.cares.proofs.Agreeing.{same-value, not-less, less}
+use Rattle.cares.proofs.Marks.{all-marked}
 use Rattle.certify.specs.Below.{Code, Instr, Compute, Load, Store, Branch, Fence, Message, Memory, Thread}
-use Rattle.certify.specs.Asks.{Sought, Seeks, Unsought, Elsewhere, OnlyAt, PlaceCare}
+use Rattle.certify.specs.Asks.{Sought, Seeks, Unsought, Elsewhere, Located, SoughtIn}
+use Rattle.certify.specs.Vacant.{Vacant}
 use Rattle.certify.specs.Sought.{Appends}
 use Rattle.certify.proofs.Stores.{crowds}
 
@@ -51,58 +53,46 @@ module _ (q : Sought) (l v b n : ℕ) (be : b ≡ 256 * l) (ne : n ≡ b + v) wh
 pub unsought-same : (q : Sought) (l v : ℕ) → Unsought q l v 2
 unsought-same q l v = record { found = λ t y a. same-value a; missed = λ none y yb a t. none (subst (λ (z : ℕ). Seeks q (256 * l + z)) (sym (same-value a)) t) }
 
--- ---- the only location of promises and of numbers that are sought
--- where the hole is among the promises, every number that is sought is at e
-abbrev pub SoughtAt : ℕ → Sought → ℕ → Type 0
-SoughtAt p q e = T (has p (q .hole)) → (l v : ℕ) → l < 16 → v < 256 → Seeks q (256 * l + v) → l ≡ e
+-- ---- the locations of messages, one by one
+module _ (m : Memory) (p : ℕ) where
+  -- before the first time of the set there is none
+  pub located-first : (r set : ℕ) → After p 0 r → Located m p r set
+  located-first r set on u out lo um at = absurd (subst T (on .between u (has-positive p u out) lo) out)
 
-module _ (m : Memory) (p : ℕ) (q : Sought) where
-  -- before the first promise: that of the numbers
-  pub only-first : (e r : ℕ) → After p 0 r → SoughtAt p q e → OnlyAt m p q e r
-  only-first e r on seeks = record { promised = λ u out lo um at. absurd (subst T (on .between u (has-positive p u out) lo) out); sought = seeks }
+  -- one message more
+  pub located-next : (u r set set' : ℕ) (w : Message) → Located m p u set → w ≡ messageAt m u → Marked set' (w .location % 16) × ((j : ℕ) → Marked set j → Marked set' j) → After p u r → Located m p r set'
+  located-next u r set set' w h we more on j out lo jm at = elim (decLt j u) [
+    | yes before ↦ more .1 _ (h j out before jm at)
+    | no after ↦ elim (decLt u j) [
+      | yes past ↦ absurd (subst T (on .between j past lo) out)
+      | no neither ↦ (let i : j ≡ u = omega arith in
+          let f : (messageAt m j) .location ≡ w .location = ap (λ (i : ℕ). (messageAt m i) .location) i ∙ ap (λ (x : Message). x .location) (sym we) in
+          let g : w .location % 16 ≡ (messageAt m j) .location = omega arith in
+          subst (Marked set') g (more .0))
+    ]
+  ]
 
-  -- one message more, the one location of both
-  pub only-next : (e e' u r : ℕ) (w : Message) → OnlyAt m p q e u → w ≡ messageAt m u → (w .location < 16 → w .location ≡ e') × (e < 16 → e ≡ e') → After p u r → OnlyAt m p q e' r
-  only-next e e' u r w h we both on =
-      record {
-        promised = λ j out lo jm at. elim (decLt j u) [
-          | yes before ↦ (let f = h .promised j out before jm at in f ∙ both .1 (omega arith))
-          | no after ↦ elim (decLt u j) [
-            | yes past ↦ absurd (subst T (on .between j past lo) out)
-            | no neither ↦ (let i : j ≡ u = omega arith in let f : (messageAt m j) .location ≡ w .location = ap (λ (i : ℕ). (messageAt m i) .location) i ∙ ap (λ (x : Message). x .location) (sym we) in f ∙ both .0 (omega arith))
-          ]
-        ];
-        sought = λ out l v lb vb s. let f = h .sought out l v lb vb s in f ∙ both .1 (omega arith);
-      }
+  -- past the last message: all
+  pub located-all : (u set : ℕ) → Located m p u set → m .count < u → Located m p 17 set
+  located-all u set h over j out lo jm = h j out (omega arith) jm
 
-  -- the address itself is asked for
-  pub place-kept : (l : ℕ) → PlaceCare m p q l 1
-  place-kept l = record { apart = λ x y at a. inl (same-address a); here = λ out v vb s x y at a. same-address a }
+-- a location that is neither in the set of the promises' nor in that of the numbers that are sought
+pub elsewhere : (m : Memory) (p : ℕ) (q : Sought) (one two set : ℕ) → m .count ≤ 16 → Located m p 17 one → SoughtIn p q two → ((j : ℕ) → Marked one j → Marked set j) × ((j : ℕ) → Marked two j → Marked set j)
+    → (l : ℕ) → l < 16 → (Marked set l → ⊥) → Elsewhere m p q l
+elsewhere m p q one two set room located sought both l low out =
+    record {
+      unpromised = λ u there um at. out (both .0 l (subst (Marked one) at (located u there (omega arith) um (omega arith))));
+      unsought = λ there v vb s. out (both .1 l (sought there l v low vb s));
+    }
 
-  module _ (l e u : ℕ) (h : OnlyAt m p q e u) (over : m .count < u) where
-    -- all other locations have none
-    elsewhere : (a : ℕ) → a < 16 → (a ≡ e → ⊥) → Elsewhere m p q a
-    elsewhere a low other =
-        record {
-          unpromised = λ j out jm at. other (sym at ∙ h .promised j out (omega arith) jm (omega arith));
-          unsought = λ out v vb s. other (h .sought out a v low vb s);
-        }
+-- every time is in the set of all
+all-times : (u : ℕ) → 0 < u → u ≤ 16 → T (has 65535 u)
+unfolding has
+all-times u lo hi = and-both (ltb 0 u) _ (lt→ltb 0 u lo) (eq→eqb (all-marked (u - 1) (omega arith)))
 
-    -- there is none: nothing is asked for
-    pub place-free : l < 16 → 16 ≤ e → PlaceCare m p q l 0
-    place-free low none =
-        record {
-          apart = λ x y at a. let b : address y < 16 = mod-lt _ (lit< tt) in inr (elsewhere (address y) b (λ i. omega arith));
-          here = λ out v vb s x y at a. absurd (let i = h .sought out l v low vb s in omega arith);
-        }
-
-    -- there is one, not that of the store: only another location than that is asked for
-    pub place-away : l < 16 → (e ≡ l → ⊥) → PlaceCare m p q l (2048 + e)
-    place-away low other =
-        record {
-          apart = λ x y at a. ⊎-elim (λ i. inl (ap address i)) (λ n. inr (elsewhere (address y) (mod-lt _ (lit< tt)) (λ i. n (ap (λ (j : ℕ). 2048 + j) (sym i))))) (not-there (omega arith) a);
-          here = λ out v vb s x y at a. absurd (other (sym (h .sought out l v low vb s)));
-        }
+-- a location that is not in the set of all messages' has none
+pub vacant-out : (m : Memory) (set : ℕ) → m .count ≤ 16 → Located m 65535 17 set → (l : ℕ) → l < 16 → (Marked set l → ⊥) → Vacant m l
+vacant-out m set room located l low out t lo hi at = out (subst (Marked set) at (located t (all-times t lo (omega arith)) (omega arith) hi (omega arith)))
 
 -- ---- whether a store can append its own message
 -- the instruction is a store
