@@ -26,3 +26,4 @@ pub mod Placing
 pub mod Later
 pub mod Vacant
 pub mod Idling
+pub mod Forking

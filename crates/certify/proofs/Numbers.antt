@@ -1,15 +1,15 @@
 -- The two least numbers met: what is still sought after some were met, and an empty promise set as what is sought.
 -- Assumes nothing.
-use mathlib.Core.Path.{_≡_, refl, sym, subst, _∙_}
+use mathlib.Core.Path.{_≡_, refl, sym, ap₂, subst, _∙_}
 use mathlib.Core.Logic.{_⊎_, inl, inr, ⊎-elim}
-use mathlib.Core.Bool.{Bool, true, false, not, cond}
+use mathlib.Core.Bool.{Bool, true, false, not, cond, _&&_}
 use Prim.Native.Nat.{ℕ, _-_, _≤_, _<_}
 use native.Mathlib.Nat.{le-refl}
 use native.Mathlib.Decide.{ℕ-discrete, decLt}
 use native.Mathlib.Omega.{arith}
 use lib.Dec.{T, eqb, leb, ltb, eqb→eq, leb→le}
 use borrow.Author.Tests.{lt-ltb, le-ltb, le-leb, lt-leb, not-false}
-use Rattle.source.proofs.Tests.{eq→eqb}
+use Rattle.source.proofs.Tests.{eq→eqb, and-left, and-right}
 use Rattle.certify.specs.Asks.{Met, Sought, meeting, Unmet, Seeks}
 use Rattle.certify.specs.Sought.{Better, same, more, Twice, TwoLeast, Emptied}
 
@@ -187,3 +187,9 @@ emptied-now q r e u = elim (decLt 0 (q .from)) [
     ]
   ]
 ]
+
+-- ---- two pairs of numbers met
+pub met-same : (p q : Met) → (eqb (p .least) (q .least) && eqb (p .second) (q .second)) ≡ true → p ≡ q
+met-same p q e =
+    let both = subst T (sym e) tt in
+    ap₂ (λ (l n : ℕ). record { least = l; second = n }) (eqb→eq _ _ (and-left (eqb (p .least) (q .least)) (eqb (p .second) (q .second)) both)) (eqb→eq _ _ (and-right (eqb (p .least) (q .least)) (eqb (p .second) (q .second)) both))

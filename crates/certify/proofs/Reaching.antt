@@ -25,7 +25,7 @@ use Rattle.certify.specs.Answers.{Trying}
 use Rattle.certify.specs.Runs.{done, by, own}
 use Rattle.certify.specs.Asks.{Unmet, Seeks, Asks, Repeats}
 use Rattle.certify.specs.Sought.{Met, Sought, Tried, Reached, Fills, Better, same, Twice, Emptied, Meets, Owns, Found, Unkept, Filled, Missed, Through}
-use Rattle.certify.specs.Straight.{Leads, Ran}
+use Rattle.certify.specs.Straight.{Leads}
 use Rattle.certify.specs.Under.{Rests}
 use Rattle.certify.proofs.Numbers.{narrows, better-on, better-as, least-passes, zero-sought, emptied-better, emptied-now}
 use Rattle.certify.proofs.Plain.{leads-there, leads-back}
@@ -150,9 +150,9 @@ module _ (c : Code) (i : ℕ) (m : Memory) (s : Thread) (q : Sought) where
       reach-all = record { better = reach-better; barren = barren }
 
 -- ---- the instructions before it
-module _ (c : Code) (i : ℕ) (m : Memory) (s y : Thread) (o : Ran c s y) (q : Sought) where
-  straight-better : {p : Met} → Better (q .from) (Meets c i m y (q .hole)) (q .met) p → Better (q .from) (Meets c i m s (q .hole)) (q .met) p
-  straight-better b = better-as (λ j w. leads-there (o .leads) i (q .hole) j w) b
+module _ (c : Code) (i : ℕ) (m : Memory) (s y : Thread) (lead : Leads c s y) (q : Sought) where
+  pub straight-better : {p : Met} → Better (q .from) (Meets c i m y (q .hole)) (q .met) p → Better (q .from) (Meets c i m s (q .hole)) (q .met) p
+  straight-better b = better-as (λ j w. leads-there lead i (q .hole) j w) b
 
   -- an empty promise set is there, and is sought
   pub straight-kept : (q .hole ≡ 0) × (y .promises ≡ 0) → (p : Met) → Emptied q p → (k : Cares) → Found (q .from) (q .met) (λ v j. Meets c i m v (q .hole) j) s (record { met = p; cares = k })

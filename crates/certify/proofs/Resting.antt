@@ -2,7 +2,7 @@
 -- Assumes nothing.
 use mathlib.Core.Path.{_≡_, refl, sym, subst}
 use mathlib.Core.List.{List}
-use Prim.Native.Nat.{ℕ, suc, _≤_}
+use Prim.Native.Nat.{ℕ, suc, _+_, _≤_}
 use native.Mathlib.Nat.{le-trans}
 use native.Mathlib.Decide.{ℕ-discrete}
 use native.Mathlib.Omega.{arith}
@@ -15,9 +15,10 @@ use Rattle.machine.specs.Rules.{next, valueOf, address, combine, computeDone, b
 use Rattle.machine.proofs.Effects.{loadLocation, Effect, loaded, stored, effect, readable-time, read-there}
 use Rattle.cares.specs.Cares.{Agrees, same, careOf, Agreeing, AgreeingBut}
 use Rattle.certify.specs.Below.{Operand, ComputeMode, LoadMode, StoreMode, FenceMode, Load, Store, Memory, Register, Thread}
+use Rattle.certify.specs.Straight.{atPosition}
 use Rattle.certify.specs.Under.{Under, Rests}
 use Rattle.certify.specs.Vacant.{Vacant, cohering}
-use Rattle.certify.proofs.Under.{under-self, promise-under, compute-under, branch-under, fence-under, read-low, post-low, post-unseen, load-under, load-idle-under, load-effect, store-under, store-effect}
+use Rattle.certify.proofs.Under.{under-self, promise-under, compute-under, branched-under, branch-under, fence-under, read-low, post-low, post-unseen, load-under, load-idle-under, load-effect, store-under, store-effect}
 use Rattle.certify.proofs.Executes.{executes}
 
 -- a thread has what it rests on
@@ -42,6 +43,10 @@ compute-rests how r a b s s' K h others written = record { under = compute-under
 pub branch-rests : (n : ℕ) (a b : Operand) (s s' : Thread) (K : List ℕ) → Rests K s s' → branchBy (eqb (valueOf s a) (valueOf s b)) n ≡ branchBy (eqb (valueOf s' a) (valueOf s' b)) n
     → Rests K (branchDone n a b s) (branchDone n a b s')
 branch-rests n a b s s' K h way = record { under = branch-under s s' (h .under) n a b way; agreeing = h .agreeing }
+
+-- s goes the other way, to where s' goes
+pub other-rests : (n : ℕ) (a b : Operand) (s s' : Thread) (K : List ℕ) → Rests K s s' → (p : ℕ) → p ≡ s' .position + branchBy (eqb (valueOf s' a) (valueOf s' b)) n → Rests K (atPosition (branchDone n a b s) p) (branchDone n a b s')
+other-rests n a b s s' K h p at = record { under = branched-under s s' (h .under) n a b p _ at; agreeing = h .agreeing }
 
 pub fence-rests : (k : FenceMode) (s s' : Thread) (K : List ℕ) → Rests K s s' → Rests K (fenceDone k s) (fenceDone k s')
 fence-rests k s s' K h = record { under = fence-under s s' (h .under) k; agreeing = h .agreeing }

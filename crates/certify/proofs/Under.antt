@@ -14,6 +14,7 @@ use Rattle.machine.specs.State.{has, with, without, freshRegister, freshForward
 use Rattle.machine.specs.Rules.{valueOf, viewOf, viewOf₂, computeDone, branchBy, branchDone, fenceDone, storeDone, readable, noneNewer, readView, loadDone, storePre, addPromise}
 use Rattle.machine.proofs.Effects.{loadLocation, loadPreView, loadPostView, storeLocation, Promised, Effect, loaded, stored}
 use Rattle.certify.specs.Below.{Operand, Constant, OfRegister, ComputeMode, LoadMode, StoreMode, FenceMode, Load, Store, Memory, Register, Forward, Thread}
+use Rattle.certify.specs.Straight.{atPosition}
 use Rattle.certify.specs.Under.{Forwarded, Under}
 use Rattle.certify.specs.Vacant.{cohering}
 use Rattle.certify.proofs.Lower.{raise-both, max-low, pre-low, store-pre-low, load-views-low, store-views-low, cap-views-low, fence-views-low, none-newer-low, view-low}
@@ -84,11 +85,11 @@ module _ (s s' : Thread) (h : Under s s') where
         views-low = h .views-low;
       }
 
-  -- a branch that goes the same way
-  pub branch-under : (n : ℕ) (a b : Operand) → branchBy (eqb (valueOf s a) (valueOf s b)) n ≡ branchBy (eqb (valueOf s' a) (valueOf s' b)) n → Under (branchDone n a b s) (branchDone n a b s')
-  branch-under n a b way =
+  -- a branch, whichever way it leads
+  pub branched-under : (n : ℕ) (a b : Operand) (p p' : ℕ) → p ≡ p' → Under (atPosition (branchDone n a b s) p) (atPosition (branchDone n a b s') p')
+  branched-under n a b p p' at =
       record {
-        same-position = ap₂ (λ (i j : ℕ). i + j) (h .same-position) way;
+        same-position = at;
         same-promises = h .same-promises;
         registers-long = h .registers-long;
         registers-low = h .registers-low;
@@ -98,6 +99,10 @@ module _ (s s' : Thread) (h : Under s s') where
         forward-same = h .forward-same;
         views-low = cap-views-low _ _ (s .views) (s' .views) (operands-low a b) (h .views-low);
       }
+
+  -- the same way
+  pub branch-under : (n : ℕ) (a b : Operand) → branchBy (eqb (valueOf s a) (valueOf s b)) n ≡ branchBy (eqb (valueOf s' a) (valueOf s' b)) n → Under (branchDone n a b s) (branchDone n a b s')
+  branch-under n a b way = branched-under n a b _ _ (ap₂ (λ (i j : ℕ). i + j) (h .same-position) way)
 
   pub fence-under : (k : FenceMode) → Under (fenceDone k s) (fenceDone k s')
   fence-under k =

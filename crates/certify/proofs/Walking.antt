@@ -2,7 +2,7 @@
 -- Assumes nothing.
 use mathlib.Core.Path.{_≡_, refl, sym, ap, subst, _∙_}
 use mathlib.Core.Logic.{_⊎_, inl, inr}
-use mathlib.Core.Bool.{Bool, true, false, _||_}
+use mathlib.Core.Bool.{Bool, true, false, not, _||_}
 use mathlib.Core.List.{List}
 use mathlib.Core.Option.{some, Option·some-injective}
 use Prim.Native.Nat.{ℕ, suc, max, _+_, _-_, _%_, _≤_, _<_}
@@ -19,8 +19,8 @@ use Rattle.machine.specs.State.{freshRegister, raiseCap}
 use Rattle.machine.specs.Rules.{valueOf, viewOf, combine, computeDone, branchBy, branchDone, fenceViews, fenceDone}
 use Rattle.cares.specs.Cares.{Agrees, careOf, Agreeing, AgreeingBut, firstOf, secondOf, noStep, Tells}
 use Rattle.certify.specs.Below.{Code, OfRegister, Instr, Compute, Branch, Fence, Register, Views, Thread}
-use Rattle.certify.specs.Straight.{Step, resultOf, stepOver, standing, stepAt, plainly, Halts, Ran, Walked, start, further}
-use Rattle.certify.proofs.Plain.{no-thread, walked-leads, plain-compute, plain-branch, plain-fence, op-halts}
+use Rattle.certify.specs.Straight.{Step, resultOf, stepOver, standing, stepAt, plainly, Halts, Walked, start, further, Ended}
+use Rattle.certify.proofs.Plain.{no-thread, plain-compute, plain-branch, plain-fence, op-halts}
 use Rattle.certify.proofs.Backwards.{Backwards, back-none, back-compute, back-branch, back-fence}
 
 -- ---- operands as their two bytes
@@ -78,7 +78,7 @@ module _ (c : Code) (n : ℕ) (l : n < c .count) where
   instr-is = rw (lt-ltb n (c .count) l) refl
 
   -- a branch lands in the code or at its end
-  pub branch-lands : CodeOk c → (instructionAt c n) .op ≡ 3 → n + suc ((instructionAt c n) .m) ≤ c .count
+  branch-lands : CodeOk c → (instructionAt c n) .op ≡ 3 → n + suc ((instructionAt c n) .m) ≤ c .count
   branch-lands o e = o .lands n ((instructionAt c n) .m) (firstOf (instructionAt c n)) (secondOf (instructionAt c n)) (instr-is ∙ ap some (op-branch (instructionAt c n) e))
 
 -- ---- on the way
@@ -96,6 +96,12 @@ kept-steps j e l start = start
 kept-steps {c} {s} {steps} j e l (further {j = k} {y = y} x w g p i t) =
     let same : stepAt (set steps j e) k ≡ stepAt steps k = getD-set-other steps j k e noStep (λ h. omega arith) in
     further x (kept-steps j e (omega arith) w) g p (ap (λ (v : Step). v .instruction) same ∙ i) (subst (λ (v : Step). Tells v y) (sym same) t)
+
+-- the thread there, and how the way ends
+on-ended : {c : Code} {s : Thread} {registers : List Register} {n : ℕ} {views : Views} {steps : List Step} {j : ℕ} → On c s registers n views steps j → (y : Thread) → y ≡ standing s registers n views
+    → (o : ℕ) → Ended c s steps j (standing s registers n views) o → Ended c s steps j y o × (Walked c s steps j y × (j ≤ 16))
+on-ended {c} {s} {steps = steps} {j = j} on y is o ended =
+    (subst (λ (z : Thread). Ended c s steps j z o) (sym is) ended, (subst (Walked c s steps j) (sym is) (on .walked), on .few))
 
 -- one more instruction
 module _ {c : Code} {s : Thread} {registers : List Register} {n : ℕ} {views : Views} {steps : List Step} {j : ℕ} (o : On c s registers n views steps j) (l : n < c .count) (short : c .count ≤ 16) (e : Step)
@@ -121,6 +127,11 @@ module _ {c : Code} {s : Thread} {registers : List Register} {n : ℕ} {views : 
         registers-long = long;
         walked = subst (λ (k : ℕ). Walked c s (set steps j e) k (standing s registers' n' views')) h one-more;
       }
+
+-- a branch moves on by its instructions and 1 on one way, by 1 on the other
+other-by : (t : Bool) (m : ℕ) → m + 2 - branchBy t m ≡ branchBy (not t) m
+other-by true m = omega arith
+other-by false m = omega arith
 
 -- ---- one turn of the loop: the instruction at n, its operands a and b, and the step that tells of it
 pub record Turn (c : Code) (s : Thread) (registers : List Register) (n : ℕ) (views : Views) (steps : List Step) (j : ℕ) (a b : Register) (step : Step) : Type 0 where
@@ -164,11 +175,39 @@ module _ {c : Code} {s : Thread} {registers : List Register} {n : ℕ} {views : 
       let h = u .on .registers-long in
       subst (λ (g : List Register). On c s g (n + 1) views (set steps j step) (j + 1)) (set-out registers (here .r) v (omega arith)) (turn-compute e v refl)
 
-  pub turn-branch : here .op ≡ 3 → (m : ℕ) → 0 < m → m ≡ branchBy (eqb (a .value) (b .value)) (here .m) → (w : Views) → w ≡ raiseCap (max (a .view) (b .view)) views
-      → On c s registers (n + m) w (set steps j step) (j + 1)
-  turn-branch e m z h w q =
-      turned registers (n + m) w (omega arith) (u .on .registers-long)
-      (plain-branch (decode here) now (standing s registers (n + m) w) (op-branch here e) (rw (q, h, first .0, first .1, second .0, second .1) refl))
+  -- a branch leads no further than 16
+  pub turn-lands : CodeOk c → here .op ≡ 3 → n + suc (here .m) ≤ 16
+  turn-lands o e = let h = branch-lands c n (u .inside) o e in let s = u .short in omega arith
+
+  module _ (e : here .op ≡ 3) (m : ℕ) (z : 0 < m) (h : m ≡ branchBy (eqb (a .value) (b .value)) (here .m)) (w : Views) (q : w ≡ raiseCap (max (a .view) (b .view)) views) where
+    -- what it leaves
+    branched : standing s registers (n + m) w ≡ branchDone (here .m) (firstOf here) (secondOf here) now
+    branched = rw (q, h, first .0, first .1, second .0, second .1) refl
+
+    pub turn-branch : On c s registers (n + m) w (set steps j step) (j + 1)
+    turn-branch = turned registers (n + m) w (omega arith) (u .on .registers-long) (plain-branch (decode here) now (standing s registers (n + m) w) (op-branch here e) branched)
+
+    -- the way ends after it, and the other way is told
+    pub turn-fork : m ≤ here .m + 1 → (y : Thread) → y ≡ standing s registers (n + m) w → (o : ℕ) → o ≡ n + (here .m + 2 - m)
+        → Ended c s (set steps j step) (j + 1) y o × (Walked c s (set steps j step) (j + 1) y × (j + 1 ≤ 16))
+    turn-fork l y is o leads-to =
+        let one-less : j ≡ j + 1 - 1 = omega arith in
+        on-ended turn-branch y is o
+        (record {
+          halts = λ d. absurd (omega arith);
+          forks = λ d.
+              record {
+                some-step = omega arith;
+                before = now;
+                walked = subst (λ (k : ℕ). Walked c s (set steps j step) k now) one-less (kept-steps j step (omega arith) (u .on .walked));
+                over = here .m;
+                a = firstOf here;
+                b = secondOf here;
+                is-next = instr-is c n (u .inside) ∙ ap some (op-branch here e);
+                after = branched;
+                other-way = rw (leads-to, h, first .0, second .0) (ap (λ (k : ℕ). n + k) (other-by (eqb (valueOf now (firstOf here)) (valueOf now (secondOf here))) (here .m)));
+              };
+        })
 
   pub turn-fence : decode here ≡ Fence (fenceMode (here .m)) → (w : Views) → w ≡ fenceViews (fenceMode (here .m)) views → On c s registers (n + 1) w (set steps j step) (j + 1)
   turn-fence e w q = turned registers (n + 1) w (omega arith) (u .on .registers-long) (plain-fence (decode here) now (standing s registers (n + 1) w) e (rw q refl))
@@ -178,10 +217,8 @@ pub on-start : (c : Code) (s : Thread) (steps : List Step) → length steps ≡ 
 on-start c s steps l h = record { far = omega arith; few = omega arith; steps-long = l; registers-long = h; walked = start }
 
 pub on-gone : {c : Code} {s : Thread} {registers : List Register} {n : ℕ} {views : Views} {steps : List Step} {j : ℕ} → On c s registers n views steps j → (y : Thread) → y ≡ standing s registers n views
-    → Halts c (standing s registers n views) → Ran c s y × (Walked c s steps j y × (j ≤ 16))
-on-gone {c} {s} {steps = steps} {j = j} o y is halted =
-    let w = subst (Walked c s steps j) (sym is) (o .walked) in
-    (record { leads = walked-leads w; halts = subst (Halts c) (sym is) halted }, (w, o .few))
+    → Halts c (standing s registers n views) → Ended c s steps j y 0 × (Walked c s steps j y × (j ≤ 16))
+on-gone o y is halted = on-ended o y is 0 (record { halts = λ z. halted; forks = λ d. absurd (d refl) })
 
 -- ---- the way back
 -- one step back from z: the thread before the last of the steps, and the cares there

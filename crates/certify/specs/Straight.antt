@@ -1,17 +1,18 @@
 -- Instructions that have one way to go on: computes, branches and fences.
 -- Assumes nothing.
 use mathlib.Core.Path.{_≡_}
+use mathlib.Core.Bool.{not}
 use mathlib.Core.Option.{Option, none, some}
 use mathlib.Core.List.{List}
-use Prim.Native.Nat.{ℕ, suc, max}
-use lib.Dec.{leb}
+use Prim.Native.Nat.{ℕ, suc, max, _+_, _-_, _<_}
+use lib.Dec.{eqb, leb}
 use lib.ListN.{getD}
 use Rattle.source.specs.declared.Instruction.{Instruction}
 use Rattle.source.specs.Program.{computeMode, instructionAt, instrAt}
-use Rattle.machine.specs.Rules.{combine, computeDone, branchDone, fenceDone}
+use Rattle.machine.specs.Rules.{valueOf, combine, computeDone, branchBy, branchDone, fenceDone}
 use Rattle.cares.specs.Cares.{noStep, Tells}
 pub use Rattle.cares.specs.declared.before.Step.{Step}
-use Rattle.certify.specs.Below.{Code, Instr, Compute, Load, Store, Branch, Fence, Register, Views, Thread}
+use Rattle.certify.specs.Below.{Code, Operand, Instr, Compute, Load, Store, Branch, Fence, Register, Views, Thread}
 
 -- what such an instruction leaves
 unfoldable pub plainly : Instr → Thread → Option Thread
@@ -29,11 +30,6 @@ pub data Leads (c : Code) : Thread → Thread → Type 0 where
 -- its next instruction, if it has one, is none of them
 abbrev pub Halts : Code → Thread → Type 0
 Halts c s = (x : Instr) → instrAt c (s .position) ≡ some x → plainly x s ≡ none
-
--- r is where s comes to by them
-pub record Ran (c : Code) (s r : Thread) : Type 0 where
-  pub leads : Leads c s r
-  pub halts : Halts c r
 
 -- what a compute of mode m leaves in its register
 abbrev pub resultOf : ℕ → Register → Register → Register
@@ -56,3 +52,24 @@ pub data Walked (c : Code) (s : Thread) (steps : List Step) : ℕ → Thread →
   start : Walked c s steps 0 s
   further : {j : ℕ} {y y' : Thread} (x : Instr) → Walked c s steps j y → instrAt c (y .position) ≡ some x → plainly x y ≡ some y'
       → (stepAt steps j) .instruction ≡ instructionAt c (y .position) → Tells (stepAt steps j) y → Walked c s steps (suc j) y'
+
+-- the thread at position n
+abbrev pub atPosition : Thread → ℕ → Thread
+atPosition s n = standing s (s .registers) n (s .views)
+
+-- FORKED: the last of the steps is a branch, which on the other way leads to position o
+pub record Forked (c : Code) (s : Thread) (steps : List Step) (count : ℕ) (y : Thread) (o : ℕ) : Type 0 where
+  pub some-step : 0 < count
+  pub before : Thread
+  pub walked : Walked c s steps (count - 1) before
+  pub over : ℕ
+  pub a : Operand
+  pub b : Operand
+  pub is-next : instrAt c (before .position) ≡ some (Branch over a b)
+  pub after : y ≡ branchDone over a b before
+  pub other-way : o ≡ before .position + branchBy (not (eqb (valueOf before a) (valueOf before b))) over
+
+-- ENDED: the thread has come to its next load or store or its end; or, where o is not 0, it has gone over a branch that leads to o on the other way
+pub record Ended (c : Code) (s : Thread) (steps : List Step) (count : ℕ) (y : Thread) (o : ℕ) : Type 0 where
+  pub halts : o ≡ 0 → Halts c y
+  pub forks : (o ≡ 0 → ⊥) → Forked c s steps count y o

@@ -61,6 +61,13 @@ impl Met {
         }
     }
 
+    // They are those.
+    pub fn is(self, those: Met) -> bool
+        ensures { λ r. ⌜ (r ≡ true → self ≡ those) ⌝ }
+    {
+        (self.least == those.least) & (self.second == those.second)
+    }
+
     // No number from `from` on is sought any more.
     pub fn ended(self, from: u16) -> bool
         ensures { λ r. ⌜ (r ≡ true → (n : ℕ) → Unmet from self n → ⊥) ⌝ }

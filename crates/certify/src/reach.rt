@@ -9,6 +9,7 @@ ghost use Rattle.source.specs.Counts.{storesFrom};
 ghost use Rattle.cares.specs.Cares.{Covers};
 ghost use Rattle.certify.specs.Answers.{Ready, Trying};
 ghost use Rattle.certify.specs.Asks.{Stores};
+ghost use Rattle.certify.specs.Straight.{Forked, Walked, atPosition};
 ghost use Rattle.certify.specs.Sought.{fill, Meets, Owns, Emptied, Twice, Found, Unkept, Filled, Keeps, Appends, Hopeless, Knows, Went, Noted};
 use crate::Met;
 use crate::Sought;
@@ -16,6 +17,7 @@ use crate::asks::asks;
 use crate::idle::idle;
 use crate::idle::lowered;
 use crate::own_message;
+use crate::straight::Walk;
 use crate::straight::before_straight;
 use crate::straight::straight;
 use crate::vain::in_vain;
@@ -179,6 +181,14 @@ fn appends(c: Code, m: Memory, s: Thread, x: Instr) -> bool
     }
 }
 
+// The thread at position n.
+fn at_position(mut s: Thread, n: u8) -> Thread
+    ensures { λ r. ⌜ r ≡ atPosition s n ⌝ }
+{
+    s.position = n;
+    s
+}
+
 // The two least numbers that runs from here come to, of those that are sought.
 pub fn two_reached(c: Code, i: u8, m: Memory, s: Thread, q: Sought) -> Met
     requires { ⌜ Ready c m s ⌝ }
@@ -187,13 +197,13 @@ pub fn two_reached(c: Code, i: u8, m: Memory, s: Thread, q: Sought) -> Met
     search_runs(c, i, m, s, q).met
 }
 
-// The same, and what it rests on that there is no other.
+// The same, and what it rests on that there is no other. With many messages about, branches are looked at both ways.
 pub fn search_runs(c: Code, i: u8, m: Memory, s: Thread, q: Sought) -> Reached
     requires { ⌜ Ready c m s ⌝ }
     ensures { λ r. ⌜ Found (q .from) (q .met) (λ y k. Meets c i m y (q .hole) k) s r ⌝ }
 {
     let nothing = Cares { of: [0; 8] };
-    let w = straight(c, s);
+    let w = straight(c, s, 12 <= m.count);
     let y = w.thread;
     if kept(y, q) {
         return Reached {
@@ -201,11 +211,14 @@ pub fn search_runs(c: Code, i: u8, m: Memory, s: Thread, q: Sought) -> Reached
             cares: nothing,
         };
     }
+    if w.other != 0 {
+        return both_ways(c, i, m, s, w, q);
+    }
     if c.count <= y.position {
         let met = q.met;
         return Reached {
             met: met,
-            cares: before_straight(w, nothing),
+            cares: before_straight(w, w.count, nothing),
         };
     }
     let r = search_at(c, i, m, y, c.instr_at(y.position), q);
@@ -216,7 +229,33 @@ pub fn search_runs(c: Code, i: u8, m: Memory, s: Thread, q: Sought) -> Reached
     let rests = r.cares;
     Reached {
         met: met,
-        cares: before_straight(w, rests),
+        cares: before_straight(w, w.count, rests),
+    }
+}
+
+// The same for a thread that has gone over a branch. If the other way has no number either that is sought, it does not count which way it
+// goes, so that the loads that it looks at need not be tried with each value.
+fn both_ways(c: Code, i: u8, m: Memory, s: Thread, w: Walk, q: Sought) -> Reached
+    requires { ⌜ Ready c m s × (Forked c s (w .steps) (w .count) (w .thread) (w .other) × (Walked c s (w .steps) (w .count) (w .thread) × (w .count ≤ 16))) ⌝ }
+    ensures { λ r. ⌜ Found (q .from) (q .met) (λ y k. Meets c i m y (q .hole) k) s r ⌝ }
+{
+    let r = search_runs(c, i, m, w.thread, q);
+    let met = r.met;
+    if met.ended(q.from) {
+        return r;
+    }
+    let rests = r.cares;
+    let o = search_runs(c, i, m, at_position(w.thread, w.other), q.after(met));
+    let others = o.cares;
+    if met.is(o.met) {
+        return Reached {
+            met: met,
+            cares: before_straight(w, w.count - 1, rests.and(others)),
+        };
+    }
+    Reached {
+        met: met,
+        cares: before_straight(w, w.count, rests),
     }
 }
 

@@ -10,7 +10,7 @@ ghost use Rattle.machine.specs.State.{freshRegister};
 ghost use Rattle.machine.specs.Rules.{valueOf, viewOf, combine, branchBy, fenceViews};
 ghost use Rattle.certify.specs.Below.{Code, Thread};
 ghost use Rattle.certify.specs.Under.{Rests};
-ghost use Rattle.certify.specs.Straight.{Leads, Ran, resultOf, stepOver, standing, Walked};
+ghost use Rattle.certify.specs.Straight.{Leads, resultOf, stepOver, standing, Walked, Ended};
 use cares::Cares;
 use cares::before::Step;
 use cares::before::before_branch;
@@ -22,11 +22,13 @@ use machine::merge::larger;
 use source::Code;
 use source::Instruction;
 
-// Where a thread has come to, and the instructions that it has gone through, in order.
+// Where a thread has come to, and the instructions that it has gone through, in order. Where the last of them is a branch to be looked at both
+// ways, the position to which it leads on the other way; else 0.
 pub struct Walk {
     pub thread: Thread,
     pub steps: [Step; 16],
     pub count: usize,
+    pub other: u8,
 }
 
 // What the operand (k, n) holds, and its view. Lent is what register n modulo 8 holds, so that the registers are not copied.
@@ -110,11 +112,11 @@ fn standing(mut s: Thread, registers: [Register; 8], n: u8, views: Views) -> Thr
     s
 }
 
-// The thread at its next load or store, or at its end; and the computes, branches and fences up to there, with what their operands hold. Of
-// the thread they change the position, the registers and the views.
-pub fn straight(c: Code, s: Thread) -> Walk
+// The thread at its next load or store, or at its end, or, if branches are to be looked at both ways, after the next branch; and the computes,
+// branches and fences up to there, with what their operands hold. Of the thread they change the position, the registers and the views.
+pub fn straight(c: Code, s: Thread, both_ways: bool) -> Walk
     requires { ⌜ CodeOk c ⌝ }
-    ensures { λ r. ⌜ Ran c s (r .thread) × (Walked c s (r .steps) (r .count) (r .thread) × (r .count ≤ 16)) ⌝ }
+    ensures { λ r. ⌜ Ended c s (r .steps) (r .count) (r .thread) (r .other) × (Walked c s (r .steps) (r .count) (r .thread) × (r .count ≤ 16)) ⌝ }
 {
     let mut registers = s.registers;
     let mut n = s.position;
@@ -128,6 +130,7 @@ pub fn straight(c: Code, s: Thread) -> Walk
                 thread: standing(s, registers, n, views),
                 steps: steps,
                 count: count,
+                other: 0,
             };
         }
         let a = operand_in(i.k1, i.n1, registers[(i.n1 % 8) as usize]);
@@ -140,8 +143,17 @@ pub fn straight(c: Code, s: Thread) -> Walk
                 registers[i.r as usize] = computed(i.m, a, b);
             }
         } else if i.op == 3 {
-            n += passed(i.m, a.value, b.value);
+            let by = passed(i.m, a.value, b.value);
             views = views.raise_cap(larger(a.view, b.view));
+            if both_ways & (i.m != 0) & (i.k1 != 0) & (i.k2 != 0) {
+                return Walk {
+                    thread: standing(s, registers, n + by, views),
+                    steps: steps,
+                    count: count,
+                    other: n + (i.m + 2 - by),
+                };
+            }
+            n += by;
         } else {
             n += 1;
             views = fenced(i.m, views);
@@ -151,17 +163,18 @@ pub fn straight(c: Code, s: Thread) -> Walk
         thread: standing(s, registers, n, views),
         steps: steps,
         count: count,
+        other: 0,
     }
 }
 
-// What a failure rests on before these instructions, by what it rests on after them.
-pub fn before_straight(w: Walk, k: Cares) -> Cares
-    requires { ⌜ w .count ≤ 16 ⌝ }
-    ensures { λ r. ⌜ ((c : Code) (s s' : Thread) → Walked c s (w .steps) (w .count) (w .thread) → Rests (r .of) s s'
-        → (y' : Thread) × (Leads c s' y' × Rests (k .of) (w .thread) y')) ⌝ }
+// What a failure rests on before the first of these instructions, so many, by what it rests on after them.
+pub fn before_straight(w: Walk, count: usize, k: Cares) -> Cares
+    requires { ⌜ count ≤ 16 ⌝ }
+    ensures { λ r. ⌜ ((c : Code) (s y s' : Thread) → Walked c s (w .steps) count y → Rests (r .of) s s'
+        → (y' : Thread) × (Leads c s' y' × Rests (k .of) y y')) ⌝ }
 {
     let steps = w.steps;
-    let mut left = w.count;
+    let mut left = count;
     let mut of = k.of;
     while 0 < left {
         left -= 1;

@@ -12,10 +12,10 @@ use Rattle.certify.proofs.straight.before_straight.Statement.{statement
 use Rattle.certify.proofs.straight.before_straight.Tie as tie
 
 abbrev Inv-loop : tie.InvT-loop
-Inv-loop steps left₀ of₀ left of = (length of ≡ 8) × ((left ≤ 16) × ((c : Code) (s z : Thread) → Walked c s steps left₀ z → Back c s z steps left of₀ of))
+Inv-loop count steps left₀ of₀ left of = (length of ≡ 8) × ((left ≤ 16) × ((c : Code) (s z : Thread) → Walked c s steps left₀ z → Back c s z steps left of₀ of))
 
 abbrev μ-loop : tie.MeasureT-loop
-μ-loop steps left₀ of₀ left of = left
+μ-loop count steps left₀ of₀ left of = left
 
 loop-holds : tie.Need-loop-holds Inv-loop μ-loop
 loop-holds c = (search length-mapped depth 7, (c .before .before .pre, λ c' s z g. back-start c' s z _ _ _ g))
@@ -63,7 +63,7 @@ loop-again-3 c =
     (c .before .before .before .before .before .before .loop .inv .0, (omega arith, λ c' s z g. one-fence-back _ _ _ _ (c .before .before .before .before .before .loop-test .taken) (c .before .before .if1 .left) (c .if2 .left) refl c' s z _ (b .1 c' s z g)))
 
 returns : tie.Need-returns Inv-loop μ-loop
-returns c = λ c' s s' g. back-end c' s _ _ _ _ _ (let l = c .loop-test .left in omega arith) (c .before .loop .inv .1 .1 c' s _ g) s'
+returns c = λ c' s y s' g. back-end c' s _ _ _ _ _ (let l = c .loop-test .left in omega arith) (c .before .loop .inv .1 .1 c' s y g) s'
 
 pub before-straight-spec : {M : Type 1} → statement M
 before-straight-spec =

@@ -6,15 +6,15 @@ use native.Mathlib.Omega.{arith}
 use borrow.Author.Needs.{needs}
 use Rattle.source.proofs.Arrays.{length-mapped}
 use Rattle.certify.proofs.Plain.{halts-end, halts-op}
-use Rattle.certify.proofs.Walking.{op-rest, branch-lands, On, Turn, turn-compute, turn-past, turn-branch, turn-fence, on-start, on-gone}
+use Rattle.certify.proofs.Walking.{op-rest, On, Turn, turn-compute, turn-past, turn-lands, turn-branch, turn-fork, turn-fence, on-start, on-gone}
 use Rattle.certify.proofs.straight.straight.Statement.{statement}
 use Rattle.certify.proofs.straight.straight.Tie as tie
 
 abbrev Inv-loop : tie.InvT-loop
-Inv-loop s c registers₀ n₀ views₀ steps₀ count₀ registers n views steps count = On c s registers n views steps count
+Inv-loop s both-ways c registers₀ n₀ views₀ steps₀ count₀ registers n views steps count = On c s registers n views steps count
 
 abbrev μ-loop : tie.MeasureT-loop
-μ-loop s c registers₀ n₀ views₀ steps₀ count₀ registers n views steps count = 17 - n
+μ-loop s both-ways c registers₀ n₀ views₀ steps₀ count₀ registers n views steps count = 17 - n
 
 -- what is known when the step is put in
 turn-at : (c : tie.After-step-over Inv-loop μ-loop)
@@ -114,10 +114,7 @@ loop-again-2 : tie.Need-loop-again-2 Inv-loop μ-loop
 loop-again-2 c = turn-past (turn-at (c .before .before .before .before)) (c .before .before .if2 .taken) (c .if3 .left)
 
 passed-requires : tie.Need-passed-requires Inv-loop μ-loop
-passed-requires c κs = let l = c .before .before .before .before .before .before .before .before .before .before .before .before .before .before .before .loop-test .taken in let s = c .before .before .before .before .before .before .before .before .before .before .before .before .before .before .before .before .before .before .before .before .pre .short in let h = branch-lands _ _ l (c .before .before .before .before .before .before .before .before .before .before .before .before .before .before .before .before .before .before .before .before .pre) (c .if4 .taken) in omega arith
-
-add-n-2 : tie.Need-add-n-2 Inv-loop μ-loop
-add-n-2 c = let l = c .before .before .before .before .before .before .before .before .before .before .before .before .before .before .before .before .loop-test .taken in let s = c .before .before .before .before .before .before .before .before .before .before .before .before .before .before .before .before .before .before .before .before .before .pre .short in let h = branch-lands _ _ l (c .before .before .before .before .before .before .before .before .before .before .before .before .before .before .before .before .before .before .before .before .before .pre) (c .before .if4 .taken) in let p = c .passed .ensures .1 .1 in omega arith
+passed-requires c κs = let h = turn-lands (turn-at (c .before .before .before .before)) (c .before .before .before .before .before .before .before .before .before .before .before .before .before .before .before .before .before .before .before .before .pre) (c .if4 .taken) in omega arith
 
 larger-requires : tie.Need-larger-requires Inv-loop μ-loop
 larger-requires c κs = tt
@@ -125,11 +122,32 @@ larger-requires c κs = tt
 raise-cap-requires : tie.Need-raise-cap-requires Inv-loop μ-loop
 raise-cap-requires c κs = tt
 
+add-standing : tie.Need-add-standing Inv-loop μ-loop
+add-standing c = let h = turn-lands (turn-at (c .before .before .before .before .before .before .before .before .before .before .before)) (c .before .before .before .before .before .before .before .before .before .before .before .before .before .before .before .before .before .before .before .before .before .before .before .before .before .before .before .pre) (c .before .before .before .before .before .before .before .if4 .taken) in let p = c .before .before .before .before .before .before .passed .ensures .1 .1 in omega arith
+
+standing-requires-2 : tie.Need-standing-requires-2 Inv-loop μ-loop
+standing-requires-2 c κs = tt
+
+add-t53 : tie.Need-add-t53 Inv-loop μ-loop
+add-t53 c = let h = turn-lands (turn-at (c .before .before .before .before .before .before .before .before .before .before .before .before .before)) (c .before .before .before .before .before .before .before .before .before .before .before .before .before .before .before .before .before .before .before .before .before .before .before .before .before .before .before .before .before .pre) (c .before .before .before .before .before .before .before .before .before .if4 .taken) in omega arith
+
+sub-t54 : tie.Need-sub-t54 Inv-loop μ-loop
+sub-t54 c = let p = c .before .before .before .before .before .before .before .before .passed .ensures .1 .1 in omega arith
+
+add-t55 : tie.Need-add-t55 Inv-loop μ-loop
+add-t55 c = let h = turn-lands (turn-at (c .before .before .before .before .before .before .before .before .before .before .before .before .before)) (c .before .before .before .before .before .before .before .before .before .before .before .before .before .before .before .before .before .before .before .before .before .before .before .before .before .before .before .before .before .pre) (c .before .before .before .before .before .before .before .before .before .if4 .taken) in let p = c .before .before .before .before .before .before .before .before .passed .ensures .1 .1 in omega arith
+
+returns-2 : tie.Need-returns-2 Inv-loop μ-loop
+returns-2 c = turn-fork (turn-at (c .before .before .before .before .before .before .before .before .before .before .before .before .before)) (c .before .before .before .before .before .before .before .before .before .if4 .taken) _ (c .before .before .before .before .before .before .before .before .passed .ensures .1 .0) (c .before .before .before .before .before .before .before .before .passed .ensures .0) _ (rw (c .before .before .before .before .before .before .raise-cap .ensures, c .before .before .before .before .before .before .before .larger .ensures) refl) (c .before .before .before .before .before .before .before .before .passed .ensures .1 .1) _ (c .before .standing2 .ensures) _ refl
+
+add-n-2 : tie.Need-add-n-2 Inv-loop μ-loop
+add-n-2 c = let h = turn-lands (turn-at (c .before .before .before .before .before .before .before .before .before .before .before)) (c .before .before .before .before .before .before .before .before .before .before .before .before .before .before .before .before .before .before .before .before .before .before .before .before .before .before .before .pre) (c .before .before .before .before .before .before .before .if4 .taken) in let p = c .before .before .before .before .before .before .passed .ensures .1 .1 in omega arith
+
 loop-less-3 : tie.Need-loop-less-3 Inv-loop μ-loop
-loop-less-3 c = let l = c .before .before .before .before .before .before .before .before .before .before .before .before .before .before .before .before .before .before .loop-test .taken in let s = c .before .before .before .before .before .before .before .before .before .before .before .before .before .before .before .before .before .before .before .before .before .before .before .pre .short in let z = c .before .before .passed .ensures .1 .0 in omega arith
+loop-less-3 c = let l = c .before .before .before .before .before .before .before .before .before .before .before .before .before .before .before .before .before .before .before .before .before .before .loop-test .taken in let s = c .before .before .before .before .before .before .before .before .before .before .before .before .before .before .before .before .before .before .before .before .before .before .before .before .before .before .before .pre .short in let z = c .before .before .before .before .before .before .passed .ensures .1 .0 in omega arith
 
 loop-again-3 : tie.Need-loop-again-3 Inv-loop μ-loop
-loop-again-3 c = turn-branch (turn-at (c .before .before .before .before .before .before .before)) (c .before .before .before .if4 .taken) _ (c .before .before .passed .ensures .1 .0) (c .before .before .passed .ensures .0) _ (rw (c .raise-cap .ensures, c .before .larger .ensures) refl)
+loop-again-3 c = turn-branch (turn-at (c .before .before .before .before .before .before .before .before .before .before .before)) (c .before .before .before .before .before .before .before .if4 .taken) _ (c .before .before .before .before .before .before .passed .ensures .1 .0) (c .before .before .before .before .before .before .passed .ensures .0) _ (rw (c .before .before .before .before .raise-cap .ensures, c .before .before .before .before .before .larger .ensures) refl)
 
 add-n-3 : tie.Need-add-n-3 Inv-loop μ-loop
 add-n-3 c = let l = c .before .before .before .before .before .before .before .before .before .before .before .before .before .before .before .loop-test .taken in let s = c .before .before .before .before .before .before .before .before .before .before .before .before .before .before .before .before .before .before .before .before .pre .short in omega arith
@@ -143,11 +161,11 @@ loop-less-4 c = let l = c .before .before .before .before .before .before .befor
 loop-again-4 : tie.Need-loop-again-4 Inv-loop μ-loop
 loop-again-4 c = turn-fence (turn-at (c .before .before .before .before .before)) (op-rest _ (c .before .before .before .before .before .before .before .before .before .before .before .before .if1 .left) (c .before .before .before .if2 .left) (c .before .if4 .left)) _ (c .fenced .ensures)
 
-standing-requires-2 : tie.Need-standing-requires-2 Inv-loop μ-loop
-standing-requires-2 c κs = tt
+standing-requires-3 : tie.Need-standing-requires-3 Inv-loop μ-loop
+standing-requires-3 c κs = tt
 
-returns-2 : tie.Need-returns-2 Inv-loop μ-loop
-returns-2 c = on-gone (c .before .before .loop .inv) _ (c .standing2 .ensures) (halts-end _ _ (let l = c .before .loop-test .left in omega arith))
+returns-3 : tie.Need-returns-3 Inv-loop μ-loop
+returns-3 c = on-gone (c .before .before .loop .inv) _ (c .standing3 .ensures) (halts-end _ _ (let l = c .before .loop-test .left in omega arith))
 
 pub straight-spec : {M : Type 1} → statement M
 straight-spec =
@@ -184,14 +202,20 @@ straight-spec =
     loop-less-2
     loop-again-2
     passed-requires
-    add-n-2
     larger-requires
     raise-cap-requires
+    add-standing
+    standing-requires-2
+    add-t53
+    sub-t54
+    add-t55
+    returns-2
+    add-n-2
     loop-less-3
     loop-again-3
     add-n-3
     fenced-requires
     loop-less-4
     loop-again-4
-    standing-requires-2
-    returns-2)
+    standing-requires-3
+    returns-3)

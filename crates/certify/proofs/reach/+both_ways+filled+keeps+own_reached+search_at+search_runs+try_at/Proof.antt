@@ -15,39 +15,44 @@ use Rattle.machine.proofs.Effects.{effect}
 use Rattle.cares.specs.Cares.{Covers}
 use Rattle.certify.specs.Below.{Thread}
 use Rattle.certify.specs.Sought.{Better, same, Meets, Missed}
-use Rattle.certify.proofs.Trying.{ready-after, ready-lowered, ready-own, reach-byte}
-use Rattle.certify.proofs.Plain.{leads-further, leads-ready}
+use Rattle.certify.proofs.Trying.{ready-after, ready-lowered, ready-at, ready-own, reach-byte}
+use Rattle.certify.proofs.Plain.{leads-further, leads-ready, walked-leads}
 use Rattle.certify.proofs.Numbers.{better-on}
 use Rattle.certify.proofs.Finding.{covers-self, covers-on}
 use Rattle.certify.proofs.Filling.{fill-no-hole, fill-none, fill-unsought, fill-here, fill-fails, alone-kept, alone-lost, hole-time, trying-filled, keeps-refused, keeps-done}
 use Rattle.certify.proofs.Missing.{knows-none, missed-none, missed-on, went-refused, went-hopeless, went-found, went-on, went-apart}
 use Rattle.certify.proofs.Owning.{owns-none, owns-untried, owns-stuck, owns-goes}
+use Rattle.certify.proofs.Forking.{fork-this, fork-other, both-found}
 use Rattle.certify.proofs.Reaching.{reach-end, reach-ended, fills-meets, tried-meets, owns-meets, reach-all, straight-kept, straight-ended, straight-found, further-by, further-own}
 use Prim.Native.Nat.{ℕ, _<_}
 use borrow.Fn.Kinds.{In}
 use borrow.Fn.PlainCycle.{Measures, is, falls, and}
+use Rattle.certify.proofs.reach.both_ways.Reads as both-ways
+use Rattle.certify.proofs.reach.both_ways.Kinds as both-ways-kinds
+use Rattle.certify.proofs.reach.+both_ways+filled+keeps+own_reached+search_at+search_runs+try_at.Lts-both_ways as both-ways-lts
 use Rattle.certify.proofs.reach.filled.Reads as filled
 use Rattle.certify.proofs.reach.filled.Kinds as filled-kinds
-use Rattle.certify.proofs.reach.+filled+keeps+own_reached+search_at+search_runs+try_at.Lts-filled as filled-lts
+use Rattle.certify.proofs.reach.+both_ways+filled+keeps+own_reached+search_at+search_runs+try_at.Lts-filled as filled-lts
 use Rattle.certify.proofs.reach.keeps.Reads as keeps
 use Rattle.certify.proofs.reach.keeps.Kinds as keeps-kinds
-use Rattle.certify.proofs.reach.+filled+keeps+own_reached+search_at+search_runs+try_at.Lts-keeps as keeps-lts
+use Rattle.certify.proofs.reach.+both_ways+filled+keeps+own_reached+search_at+search_runs+try_at.Lts-keeps as keeps-lts
 use Rattle.certify.proofs.reach.own_reached.Reads as own-reached
 use Rattle.certify.proofs.reach.own_reached.Kinds as own-reached-kinds
-use Rattle.certify.proofs.reach.+filled+keeps+own_reached+search_at+search_runs+try_at.Lts-own_reached as own-reached-lts
+use Rattle.certify.proofs.reach.+both_ways+filled+keeps+own_reached+search_at+search_runs+try_at.Lts-own_reached as own-reached-lts
 use Rattle.certify.proofs.reach.search_at.Reads as search-at
 use Rattle.certify.proofs.reach.search_at.Kinds as search-at-kinds
-use Rattle.certify.proofs.reach.+filled+keeps+own_reached+search_at+search_runs+try_at.Lts-search_at as search-at-lts
+use Rattle.certify.proofs.reach.+both_ways+filled+keeps+own_reached+search_at+search_runs+try_at.Lts-search_at as search-at-lts
 use Rattle.certify.proofs.reach.search_runs.Reads as search-runs
 use Rattle.certify.proofs.reach.search_runs.Kinds as search-runs-kinds
-use Rattle.certify.proofs.reach.+filled+keeps+own_reached+search_at+search_runs+try_at.Lts-search_runs as search-runs-lts
+use Rattle.certify.proofs.reach.+both_ways+filled+keeps+own_reached+search_at+search_runs+try_at.Lts-search_runs as search-runs-lts
 use Rattle.certify.proofs.reach.try_at.Reads as try-at
 use Rattle.certify.proofs.reach.try_at.Kinds as try-at-kinds
-use Rattle.certify.proofs.reach.+filled+keeps+own_reached+search_at+search_runs+try_at.Lts-try_at as try-at-lts
+use Rattle.certify.proofs.reach.+both_ways+filled+keeps+own_reached+search_at+search_runs+try_at.Lts-try_at as try-at-lts
 use Rattle.cares.proofs.Cares.and.Reads as and-reads
 use Rattle.cares.proofs.Cares.noting.Reads as noting-reads
 use Rattle.cares.proofs.barring.Reads as barring-reads
 use Rattle.certify.proofs.Met.ended.Reads as ended-reads
+use Rattle.certify.proofs.Met.is.Reads as is-reads
 use Rattle.certify.proofs.Met.with.Reads as with-reads
 use Rattle.certify.proofs.Sought.after.Reads as after-reads
 use Rattle.certify.proofs.Sought.certified.Reads as certified-reads
@@ -57,6 +62,7 @@ use Rattle.certify.proofs.idle.idle.Reads as idle-reads
 use Rattle.certify.proofs.idle.lowered.Reads as lowered-reads
 use Rattle.certify.proofs.own_message.Reads as own-message-reads
 use Rattle.certify.proofs.reach.appends.Reads as appends-reads
+use Rattle.certify.proofs.reach.at_position.Reads as at-position-reads
 use Rattle.certify.proofs.reach.emptied.Reads as emptied-reads
 use Rattle.certify.proofs.reach.fill.Reads as fill-reads
 use Rattle.certify.proofs.reach.hopeless.Reads as hopeless-reads
@@ -74,12 +80,15 @@ use Rattle.rules.proofs.operands.view_of.Reads as view-of-reads
 use Rattle.rules.proofs.own_store.Reads as own-store-reads
 use Rattle.source.proofs.Code.instr_at.Reads as instr-at-reads
 use Rattle.stores.proofs.below_time.Reads as below-time-reads
-use Rattle.certify.proofs.reach.+filled+keeps+own_reached+search_at+search_runs+try_at.{
+use Rattle.certify.proofs.reach.+both_ways+filled+keeps+own_reached+search_at+search_runs+try_at.{
   statement,
 }
-use Rattle.certify.proofs.reach.+filled+keeps+own_reached+search_at+search_runs+try_at.Tie.{
+use Rattle.certify.proofs.reach.+both_ways+filled+keeps+own_reached+search_at+search_runs+try_at.Tie.{
   close,
 }
+
+abbrev μ-both-ways : Measures 0 both-ways-kinds.ps ℕ
+μ-both-ways κs a = 5 * (20 - a .1 .1 .1 .0 .position) + 3
 
 abbrev μ-filled : Measures 0 filled-kinds.ps ℕ
 μ-filled κs a = 5 * (20 - a .1 .1 .1 .0 .position) + 2
@@ -98,6 +107,13 @@ abbrev μ-search-runs : Measures 0 search-runs-kinds.ps ℕ
 
 abbrev μ-try-at : Measures 0 try-at-kinds.ps ℕ
 μ-try-at κs a = 5 * (20 - a .1 .1 .1 .0 .position) + 2
+
+abbrev both-ways-at : ℕ → In 0 both-ways-kinds.ps
+both-ways-at t = and 0 both-ways-kinds.ps (is 0 both-ways-kinds.ps μ-both-ways t) both-ways.Pre
+
+abbrev both-ways-below : ℕ → In 0 both-ways-kinds.ps
+both-ways-below t =
+    and 0 both-ways-kinds.ps (falls 0 both-ways-kinds.ps _<_ μ-both-ways t) both-ways.Pre
 
 abbrev filled-at : ℕ → In 0 filled-kinds.ps
 filled-at t = and 0 filled-kinds.ps (is 0 filled-kinds.ps μ-filled t) filled.Pre
@@ -140,6 +156,9 @@ try-at-at t = and 0 try-at-kinds.ps (is 0 try-at-kinds.ps μ-try-at t) try-at.Pr
 abbrev try-at-below : ℕ → In 0 try-at-kinds.ps
 try-at-below t = and 0 try-at-kinds.ps (falls 0 try-at-kinds.ps _<_ μ-try-at t) try-at.Pre
 
+abbrev both-ways-claims : ℕ → both-ways-lts.Claims
+both-ways-claims t = (search-runs-below t, search-runs.Post, ended-reads.Asked, ended-reads.Learnt, at-position-reads.Asked, at-position-reads.Learnt, after-reads.Asked, after-reads.Learnt, is-reads.Asked, is-reads.Learnt, and-reads.Asked, and-reads.Learnt, before-straight-reads.Asked, before-straight-reads.Learnt)
+
 abbrev filled-claims : ℕ → filled-lts.Claims
 filled-claims t = (has-reads.Asked, has-reads.Learnt, own-message-reads.Asked, own-message-reads.Learnt, seeks-reads.Asked, seeks-reads.Learnt, with-reads.Asked, with-reads.Learnt, view-of-reads.Asked, view-of-reads.Learnt, below-time-reads.Asked, below-time-reads.Learnt, fill-reads.Asked, fill-reads.Learnt, keeps-below t, keeps.Post)
 
@@ -153,10 +172,49 @@ abbrev search-at-claims : ℕ → search-at-lts.Claims
 search-at-claims t = (earliest-reads.Asked, earliest-reads.Learnt, filled-below t, filled.Post, untried-reads.Asked, untried-reads.Learnt, try-at-below t, try-at.Post, ended-reads.Asked, ended-reads.Learnt, following-reads.Asked, following-reads.Learnt, appends-reads.Asked, appends-reads.Learnt, after-reads.Asked, after-reads.Learnt, own-reached-below t, own-reached.Post, asks-reads.Asked, asks-reads.Learnt, and-reads.Asked, and-reads.Learnt)
 
 abbrev search-runs-claims : ℕ → search-runs-lts.Claims
-search-runs-claims t = (straight-reads.Asked, straight-reads.Learnt, kept-reads.Asked, kept-reads.Learnt, emptied-reads.Asked, emptied-reads.Learnt, before-straight-reads.Asked, before-straight-reads.Learnt, instr-at-reads.Asked, instr-at-reads.Learnt, search-at-below t, search-at.Post, ended-reads.Asked, ended-reads.Learnt)
+search-runs-claims t = (straight-reads.Asked, straight-reads.Learnt, kept-reads.Asked, kept-reads.Learnt, emptied-reads.Asked, emptied-reads.Learnt, both-ways-below t, both-ways.Post, before-straight-reads.Asked, before-straight-reads.Learnt, instr-at-reads.Asked, instr-at-reads.Learnt, search-at-below t, search-at.Post, ended-reads.Asked, ended-reads.Learnt)
 
 abbrev try-at-claims : ℕ → try-at-lts.Claims
 try-at-claims t = (hopeless-reads.Asked, hopeless-reads.Learnt, execute-reads.Asked, execute-reads.Learnt, after-reads.Asked, after-reads.Learnt, kept-reads.Asked, kept-reads.Learnt, emptied-reads.Asked, emptied-reads.Learnt, idle-reads.Asked, idle-reads.Learnt, lowered-reads.Asked, lowered-reads.Learnt, search-runs-below t, search-runs.Post, noted-reads.Asked, noted-reads.Learnt)
+
+both-ways-search-runs-requires : (t : ℕ) → both-ways-lts.Need-search-runs-requires (both-ways-claims t) (both-ways-at t) both-ways.Post
+both-ways-search-runs-requires t c κs = let f = c .pre .1 .1 .0 in let w = c .pre .1 .0 in let l = fork-this _ _ _ _ _ _ f (w .code-ok) in (omega (arith, c .pre .0), leads-ready (walked-leads (c .pre .1 .1 .1 .0)) w)
+
+both-ways-ended-requires : (t : ℕ) → both-ways-lts.Need-ended-requires (both-ways-claims t) (both-ways-at t) both-ways.Post
+both-ways-ended-requires t c κs = search needs
+
+both-ways-returns : (t : ℕ) → both-ways-lts.Need-returns (both-ways-claims t) (both-ways-at t) both-ways.Post
+both-ways-returns t c = straight-ended _ _ _ _ _ (walked-leads (c .before .before .before .before .pre .1 .1 .1 .0)) (c .before .before .before .before .args .q) _ (c .before .before .before .search-runs .ensures) (c .before .ended .ensures (c .if1 .taken))
+
+both-ways-at-position-requires : (t : ℕ) → both-ways-lts.Need-at-position-requires (both-ways-claims t) (both-ways-at t) both-ways.Post
+both-ways-at-position-requires t c κs = search needs
+
+both-ways-after-requires : (t : ℕ) → both-ways-lts.Need-after-requires (both-ways-claims t) (both-ways-at t) both-ways.Post
+both-ways-after-requires t c κs = search needs
+
+both-ways-search-runs-requires-2 : (t : ℕ) → both-ways-lts.Need-search-runs-requires-2 (both-ways-claims t) (both-ways-at t) both-ways.Post
+both-ways-search-runs-requires-2 t c κs = let f = c .before .before .before .before .before .before .before .pre .1 .1 .0 in let w = c .before .before .before .before .before .before .before .pre .1 .0 in let l = fork-other _ _ _ _ _ _ f (w .code-ok) in let at = ap (λ (v : Thread). v .position) (c .before .at-position .ensures) in (omega (arith, c .before .before .before .before .before .before .before .pre .0), ready-at (leads-ready (walked-leads (c .before .before .before .before .before .before .before .pre .1 .1 .1 .0)) w) (c .before .at-position .ensures))
+
+both-ways-is-requires : (t : ℕ) → both-ways-lts.Need-is-requires (both-ways-claims t) (both-ways-at t) both-ways.Post
+both-ways-is-requires t c κs = search needs
+
+both-ways-sub-before-straight : (t : ℕ) → both-ways-lts.Need-sub-before-straight (both-ways-claims t) (both-ways-at t) both-ways.Post
+both-ways-sub-before-straight t c = let h = c .before .before .before .before .before .before .before .before .before .before .before .before .pre .1 .1 .0 .some-step in omega arith
+
+both-ways-and-requires : (t : ℕ) → both-ways-lts.Need-and-requires (both-ways-claims t) (both-ways-at t) both-ways.Post
+both-ways-and-requires t c κs = search needs
+
+both-ways-before-straight-requires : (t : ℕ) → both-ways-lts.Need-before-straight-requires (both-ways-claims t) (both-ways-at t) both-ways.Post
+both-ways-before-straight-requires t c κs = let h = c .before .before .before .before .before .before .before .before .before .before .before .before .before .pre .1 .1 .1 .1 in omega arith
+
+both-ways-returns-2 : (t : ℕ) → both-ways-lts.Need-returns-2 (both-ways-claims t) (both-ways-at t) both-ways.Post
+both-ways-returns-2 t c = let f = c .before .before .before .before .before .before .before .before .before .before .before .before .before .before .pre .1 .1 .0 in both-found _ _ _ _ _ _ f _ _ (walked-leads (c .before .before .before .before .before .before .before .before .before .before .before .before .before .before .pre .1 .1 .1 .0)) (c .before .before .before .before .before .before .before .before .before .before .before .before .before .before .args .q) _ (c .before .before .before .before .before .before .before .before .before .before .before .before .before .search-runs .ensures) _ (c .before .before .before .before .before .before .before .before .at-position .ensures) _ (rw (c .before .before .before .before .before .before .before .after .ensures) at (c .before .before .before .before .before .before .search-runs2 .ensures)) (c .before .before .before .before .is .ensures (c .before .before .before .if2 .taken)) _ _ (c .before .and .ensures) (λ s'. c .before-straight .ensures _ _ _ s' (f .walked))
+
+both-ways-before-straight-requires-2 : (t : ℕ) → both-ways-lts.Need-before-straight-requires-2 (both-ways-claims t) (both-ways-at t) both-ways.Post
+both-ways-before-straight-requires-2 t c κs = c .before .before .before .before .before .before .before .before .before .before .before .pre .1 .1 .1 .1
+
+both-ways-returns-3 : (t : ℕ) → both-ways-lts.Need-returns-3 (both-ways-claims t) (both-ways-at t) both-ways.Post
+both-ways-returns-3 t c = straight-found _ _ _ _ _ (walked-leads (c .before .before .before .before .before .before .before .before .before .before .before .before .pre .1 .1 .1 .0)) (c .before .before .before .before .before .before .before .before .before .before .before .before .args .q) _ (c .before .before .before .before .before .before .before .before .before .before .before .search-runs .ensures) _ (λ s'. c .before-straight2 .ensures _ _ _ s' (c .before .before .before .before .before .before .before .before .before .before .before .before .pre .1 .1 .1 .0))
 
 places : (t : ℕ) (c : filled-lts.Start (filled-claims t) (filled-at t) filled.Post) → length (c .args .m .messages) ≡ 16
 places t c = search length-mapped depth 7
@@ -396,7 +454,7 @@ search-at-returns-3 : (t : ℕ) → search-at-lts.Need-returns-3 (search-at-clai
 search-at-returns-3 t c = reach-all _ _ _ _ (c .before .before .before .before .before .before .before .before .before .before .before .before .before .before .before .args .q) _ (c .before .before .before .before .before .before .before .before .before .before .before .before .before .before .before .pre .1 .0 .is-next) _ (c .before .before .before .before .before .before .before .before .before .before .before .before .before .filled .ensures) (c .before .before .before .before .before .before .before .before .before .before .before .before .before .before .before .pre .1 .1) (c .before .before .before .before .before .before .before .before .before .before .before .before .before .before .before .pre .1 .0 .ready .room) _ _ (rw (c .before .before .before .before .before .before .before .before .before .before .before .before .untried .ensures) at (c .before .before .before .before .before .before .before .before .before .before .before .loop .inv .1 .0)) (rw (c .before .before .before .before .before .before .before .before .before .before .before .before .untried .ensures) at (c .before .before .before .before .before .before .before .before .before .before .before .loop .inv .1 .1 .0)) (c .before .before .before .before .before .before .before .before .before .before .before .loop .inv .0) (c .before .before .before .before .before .before .before .before .before .before .loop-test .left) _ (rw (c .before .before .before .before .before .before .before .before .after .ensures) at (c .before .before .before .before .before .before .before .own-reached .ensures .0)) (c .before .before .before .before .before .before .before .own-reached .ensures .1) _ (c .before .before .after2 .ensures) _ (c .before .asks .ensures) _ (c .and .ensures)
 
 search-runs-straight-requires : (t : ℕ) → search-runs-lts.Need-straight-requires (search-runs-claims t) (search-runs-at t) search-runs.Post
-search-runs-straight-requires t c κs = c .pre .1 .code-ok
+search-runs-straight-requires t c κs = c .before .pre .1 .code-ok
 
 search-runs-kept-requires : (t : ℕ) → search-runs-lts.Need-kept-requires (search-runs-claims t) (search-runs-at t) search-runs.Post
 search-runs-kept-requires t c κs = search needs
@@ -405,31 +463,37 @@ search-runs-emptied-requires : (t : ℕ) → search-runs-lts.Need-emptied-requir
 search-runs-emptied-requires t c κs = search needs
 
 search-runs-returns : (t : ℕ) → search-runs-lts.Need-returns (search-runs-claims t) (search-runs-at t) search-runs.Post
-search-runs-returns t c = straight-kept _ _ _ _ _ (c .before .before .before .before .straight .ensures .0) (c .before .before .before .before .before .args .q) (c .before .before .kept .ensures .0 (c .before .if1 .taken)) _ (c .emptied .ensures) _
+search-runs-returns t c = straight-kept _ _ _ _ _ (walked-leads (c .before .before .before .before .straight .ensures .1 .0)) (c .before .before .before .before .before .before .args .q) (c .before .before .kept .ensures .0 (c .before .if1 .taken)) _ (c .emptied .ensures) _
 
-search-runs-before-straight-requires : (t : ℕ) → search-runs-lts.Need-before-straight-requires (search-runs-claims t) (search-runs-at t) search-runs.Post
-search-runs-before-straight-requires t c κs = c .before .before .before .before .before .before .before .straight .ensures .1 .1
+search-runs-both-ways-requires : (t : ℕ) → search-runs-lts.Need-both-ways-requires (search-runs-claims t) (search-runs-at t) search-runs.Post
+search-runs-both-ways-requires t c κs = (omega (arith, c .before .before .before .before .before .before .before .pre .0), (c .before .before .before .before .before .before .before .pre .1, (c .before .before .before .before .before .straight .ensures .0 .forks (c .if2 .taken), c .before .before .before .before .before .straight .ensures .1)))
 
 search-runs-returns-2 : (t : ℕ) → search-runs-lts.Need-returns-2 (search-runs-claims t) (search-runs-at t) search-runs.Post
-search-runs-returns-2 t c = straight-found _ _ _ _ _ (c .before .before .before .before .before .before .before .before .straight .ensures .0) (c .before .before .before .before .before .before .before .before .before .args .q) _ (reach-end _ _ _ _ (c .before .before .before .before .before .before .before .before .before .args .q) (c .before .before .before .before .before .before .kept .ensures .1 (c .before .before .before .before .before .if1 .left)) (c .before .before .if2 .taken) _) _ (λ s'. c .before-straight .ensures _ _ s' (c .before .before .before .before .before .before .before .before .straight .ensures .1 .0))
+search-runs-returns-2 t c = c .both-ways .ensures
+
+search-runs-before-straight-requires : (t : ℕ) → search-runs-lts.Need-before-straight-requires (search-runs-claims t) (search-runs-at t) search-runs.Post
+search-runs-before-straight-requires t c κs = c .before .before .before .before .before .before .before .before .before .straight .ensures .1 .1
+
+search-runs-returns-3 : (t : ℕ) → search-runs-lts.Need-returns-3 (search-runs-claims t) (search-runs-at t) search-runs.Post
+search-runs-returns-3 t c = straight-found _ _ _ _ _ (walked-leads (c .before .before .before .before .before .before .before .before .before .before .straight .ensures .1 .0)) (c .before .before .before .before .before .before .before .before .before .before .before .before .args .q) _ (reach-end _ _ _ _ (c .before .before .before .before .before .before .before .before .before .before .before .before .args .q) (c .before .before .before .before .before .before .before .before .kept .ensures .1 (c .before .before .before .before .before .before .before .if1 .left)) (c .before .before .if3 .taken) _) _ (λ s'. c .before-straight .ensures _ _ _ s' (c .before .before .before .before .before .before .before .before .before .before .straight .ensures .1 .0))
 
 search-runs-instr-at-requires : (t : ℕ) → search-runs-lts.Need-instr-at-requires (search-runs-claims t) (search-runs-at t) search-runs.Post
-search-runs-instr-at-requires t c κs = let h = c .before .before .before .before .before .before .before .pre .1 .code-ok .short in let l = c .if2 .left in (omega arith, l)
+search-runs-instr-at-requires t c κs = let h = c .before .before .before .before .before .before .before .before .before .before .pre .1 .code-ok .short in let l = c .if3 .left in (omega arith, l)
 
 search-runs-search-at-requires : (t : ℕ) → search-runs-lts.Need-search-at-requires (search-runs-claims t) (search-runs-at t) search-runs.Post
-search-runs-search-at-requires t c κs = let f = leads-further (c .before .before .before .before .before .before .before .straight .ensures .0 .leads) in (omega (arith, c .before .before .before .before .before .before .before .before .pre .0), (record { ready = leads-ready (c .before .before .before .before .before .before .before .straight .ensures .0 .leads) (c .before .before .before .before .before .before .before .before .pre .1); is-next = c .instr-at .ensures }, record { halting = c .before .before .before .before .before .before .before .straight .ensures .0 .halts _ (c .instr-at .ensures); outstanding = c .before .before .before .before .before .kept .ensures .1 (c .before .before .before .before .if1 .left) }))
+search-runs-search-at-requires t c κs = let lead = walked-leads (c .before .before .before .before .before .before .before .before .before .straight .ensures .1 .0) in let f = leads-further lead in (omega (arith, c .before .before .before .before .before .before .before .before .before .before .before .pre .0), (record { ready = leads-ready lead (c .before .before .before .before .before .before .before .before .before .before .before .pre .1); is-next = c .instr-at .ensures }, record { halting = c .before .before .before .before .before .before .before .before .before .straight .ensures .0 .halts (c .before .before .before .before .if2 .left) _ (c .instr-at .ensures); outstanding = c .before .before .before .before .before .before .before .kept .ensures .1 (c .before .before .before .before .before .before .if1 .left) }))
 
 search-runs-ended-requires : (t : ℕ) → search-runs-lts.Need-ended-requires (search-runs-claims t) (search-runs-at t) search-runs.Post
 search-runs-ended-requires t c κs = search needs
 
-search-runs-returns-3 : (t : ℕ) → search-runs-lts.Need-returns-3 (search-runs-claims t) (search-runs-at t) search-runs.Post
-search-runs-returns-3 t c = straight-ended _ _ _ _ _ (c .before .before .before .before .before .before .before .before .before .before .before .straight .ensures .0) (c .before .before .before .before .before .before .before .before .before .before .before .before .args .q) _ (c .before .before .before .search-at .ensures) (c .before .ended .ensures (c .if3 .taken))
+search-runs-returns-4 : (t : ℕ) → search-runs-lts.Need-returns-4 (search-runs-claims t) (search-runs-at t) search-runs.Post
+search-runs-returns-4 t c = straight-ended _ _ _ _ _ (walked-leads (c .before .before .before .before .before .before .before .before .before .before .before .before .before .straight .ensures .1 .0)) (c .before .before .before .before .before .before .before .before .before .before .before .before .before .before .before .args .q) _ (c .before .before .before .search-at .ensures) (c .before .ended .ensures (c .if4 .taken))
 
 search-runs-before-straight-requires-2 : (t : ℕ) → search-runs-lts.Need-before-straight-requires-2 (search-runs-claims t) (search-runs-at t) search-runs.Post
-search-runs-before-straight-requires-2 t c κs = c .before .before .before .before .before .before .before .before .before .before .before .before .straight .ensures .1 .1
+search-runs-before-straight-requires-2 t c κs = c .before .before .before .before .before .before .before .before .before .before .before .before .before .before .straight .ensures .1 .1
 
-search-runs-returns-4 : (t : ℕ) → search-runs-lts.Need-returns-4 (search-runs-claims t) (search-runs-at t) search-runs.Post
-search-runs-returns-4 t c = straight-found _ _ _ _ _ (c .before .before .before .before .before .before .before .before .before .before .before .before .before .straight .ensures .0) (c .before .before .before .before .before .before .before .before .before .before .before .before .before .before .args .q) _ (c .before .before .before .before .before .search-at .ensures) _ (λ s'. c .before-straight2 .ensures _ _ s' (c .before .before .before .before .before .before .before .before .before .before .before .before .before .straight .ensures .1 .0))
+search-runs-returns-5 : (t : ℕ) → search-runs-lts.Need-returns-5 (search-runs-claims t) (search-runs-at t) search-runs.Post
+search-runs-returns-5 t c = straight-found _ _ _ _ _ (walked-leads (c .before .before .before .before .before .before .before .before .before .before .before .before .before .before .before .straight .ensures .1 .0)) (c .before .before .before .before .before .before .before .before .before .before .before .before .before .before .before .before .before .args .q) _ (c .before .before .before .before .before .search-at .ensures) _ (λ s'. c .before-straight2 .ensures _ _ _ s' (c .before .before .before .before .before .before .before .before .before .before .before .before .before .before .before .straight .ensures .1 .0))
 
 try-at-hopeless-requires : (t : ℕ) → try-at-lts.Need-hopeless-requires (try-at-claims t) (try-at-at t) try-at.Post
 try-at-hopeless-requires t c κs = let w = c .pre .1 .0 in (w .ready .code-ok .short, (w .ready .room, c .pre .1 .1 .0))
@@ -485,9 +549,24 @@ try-at-noted-requires-2 t c κs = c .before .before .before .before .before .bef
 try-at-returns-5 : (t : ℕ) → try-at-lts.Need-returns-5 (try-at-claims t) (try-at-at t) try-at.Post
 try-at-returns-5 t c = went-on _ _ _ _ _ _ _ _ (c .before .before .before .before .before .before .before .before .before .before .before .before .pre .1 .1 .1) _ (ruled-done _ _ _ (c .before .before .before .before .before .before .before .before .before .execute .ensures) (c .before .before .before .before .before .before .before .enum-told .given .1)) _ (rw (c .before .before .before .before .before .before .after .ensures) at (c .before .search-runs2 .ensures)) _ (c .noted2 .ensures)
 
-pub +filled+keeps+own-reached+search-at+search-runs+try-at-spec : {M : Type 1} → statement M
-+filled+keeps+own-reached+search-at+search-runs+try-at-spec =
-    close μ-filled μ-keeps μ-own-reached μ-search-at μ-search-runs μ-try-at (λ t. filled-lts.spec (filled-claims t) (filled-at t)
+pub +both-ways+filled+keeps+own-reached+search-at+search-runs+try-at-spec : {M : Type 1} → statement M
++both-ways+filled+keeps+own-reached+search-at+search-runs+try-at-spec =
+    close μ-both-ways μ-filled μ-keeps μ-own-reached μ-search-at μ-search-runs μ-try-at (λ t. both-ways-lts.spec (both-ways-claims t) (both-ways-at t)
+    both-ways.Post
+    (both-ways-search-runs-requires t)
+    (both-ways-ended-requires t)
+    (both-ways-returns t)
+    (both-ways-at-position-requires t)
+    (both-ways-after-requires t)
+    (both-ways-search-runs-requires-2 t)
+    (both-ways-is-requires t)
+    (both-ways-sub-before-straight t)
+    (both-ways-and-requires t)
+    (both-ways-before-straight-requires t)
+    (both-ways-returns-2 t)
+    (both-ways-before-straight-requires-2 t)
+    (both-ways-returns-3 t))
+    (λ t. filled-lts.spec (filled-claims t) (filled-at t)
     filled.Post
     (filled-has-requires t)
     (filled-returns t)
@@ -579,14 +658,16 @@ pub +filled+keeps+own-reached+search-at+search-runs+try-at-spec : {M : Type 1} �
     (search-runs-kept-requires t)
     (search-runs-emptied-requires t)
     (search-runs-returns t)
-    (search-runs-before-straight-requires t)
+    (search-runs-both-ways-requires t)
     (search-runs-returns-2 t)
+    (search-runs-before-straight-requires t)
+    (search-runs-returns-3 t)
     (search-runs-instr-at-requires t)
     (search-runs-search-at-requires t)
     (search-runs-ended-requires t)
-    (search-runs-returns-3 t)
+    (search-runs-returns-4 t)
     (search-runs-before-straight-requires-2 t)
-    (search-runs-returns-4 t))
+    (search-runs-returns-5 t))
     λ t. try-at-lts.spec (try-at-claims t) (try-at-at t)
     try-at.Post
     (try-at-hopeless-requires t)

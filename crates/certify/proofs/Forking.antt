@@ -1,0 +1,95 @@
+-- A branch looked at both ways: where neither leads to a number that is sought, it does not count which way a thread goes.
+-- Assumes nothing.
+use mathlib.Core.Path.{_≡_, refl, sym, ap, ap₂, subst, _∙_}
+use mathlib.Core.Logic.{_⊎_, inl, inr, ⊎-elim}
+use mathlib.Core.Bool.{Bool, true, false, not}
+use mathlib.Core.List.{List}
+use mathlib.Core.Option.{some}
+use Prim.Native.Nat.{ℕ, _+_, _-_, _*_, _<_}
+use native.Mathlib.Omega.{arith}
+use lib.Dec.{eqb}
+use Rattle.source.specs.Program.{instrAt}
+use Rattle.source.proofs.Counts.{there}
+use Rattle.source.proofs.Formed.{CodeOk}
+use Rattle.machine.specs.Rules.{valueOf, branchBy, branchDone}
+use Rattle.cares.specs.Cares.{Covers}
+use Rattle.cares.specs.declared.Cares.{Cares}
+use Rattle.certify.specs.Below.{Code, Branch, Memory, Thread}
+use Rattle.certify.specs.Asks.{Met, Sought, Unmet}
+use Rattle.certify.specs.Sought.{Reached, Meets, Found}
+use Rattle.certify.specs.Straight.{Step, Leads, here, on, atPosition, Forked}
+use Rattle.certify.specs.Under.{Rests}
+use Rattle.certify.proofs.Plain.{leads-back, leads-further, walked-leads, plain-branch}
+use Rattle.certify.proofs.Resting.{branch-rests, other-rests}
+use Rattle.certify.proofs.Finding.{rests-less}
+use Rattle.certify.proofs.Reaching.{straight-better}
+
+-- a test comes out as another or the other way
+same-or-not : (p q : Bool) → (p ≡ q) ⊎ (not p ≡ q)
+same-or-not true true = inl refl
+same-or-not true false = inr refl
+same-or-not false true = inr refl
+same-or-not false false = inl refl
+
+-- a branch moves on, whichever way it goes
+moves-on : (t : Bool) (n : ℕ) → 0 < branchBy t n
+moves-on true n = omega arith
+moves-on false n = omega arith
+
+module _ (c : Code) (s y : Thread) (steps : List Step) (count o : ℕ) (f : Forked c s steps count y o) where
+  -- both ways lead further, so the search ends
+  fork-low : CodeOk c → s .position < 20
+  fork-low ok =
+      let l = there c (f .before .position) (Branch (f .over) (f .a) (f .b)) (f .is-next) .0 in
+      let h = leads-further (walked-leads (f .walked)) in
+      let short = ok .short in
+      omega arith
+
+  pub fork-this : CodeOk c → 5 * (20 - y .position) + 4 < 5 * (20 - s .position) + 3
+  fork-this ok =
+      let h = leads-further (walked-leads (f .walked)) in
+      let low = fork-low ok in
+      let e = ap (λ (v : Thread). v .position) (f .after) in
+      let g = moves-on (eqb (valueOf (f .before) (f .a)) (valueOf (f .before) (f .b))) (f .over) in
+      omega arith
+
+  pub fork-other : CodeOk c → 5 * (20 - o) + 4 < 5 * (20 - s .position) + 3
+  fork-other ok =
+      let h = leads-further (walked-leads (f .walked)) in
+      let low = fork-low ok in
+      let e = f .other-way in
+      let g = moves-on (not (eqb (valueOf (f .before) (f .a)) (valueOf (f .before) (f .b)))) (f .over) in
+      omega arith
+
+  module _ (i : ℕ) (m : Memory) (lead : Leads c s y) (q : Sought) (r : Reached) (this : Found (q .from) (q .met) (λ v j. Meets c i m v (q .hole) j) y r)
+      (z : Thread) (ze : z ≡ atPosition y o) (p : Reached) (other : Found (q .from) (r .met) (λ v j. Meets c i m v (q .hole) j) z p) (same : r .met ≡ p .met)
+      (both k : Cares) (covers : Covers (both .of) (r .cares .of) × Covers (both .of) (p .cares .of))
+      (back : (s' : Thread) → Rests (k .of) s s' → (v : Thread) × (Leads c s' v × Rests (both .of) (f .before) v)) where
+    -- a thread that has come to the branch too, by where it goes
+    past : (v : Thread) → Rests (both .of) (f .before) v → (j : ℕ) → Unmet (q .from) (r .met) j → Meets c i m (branchDone (f .over) (f .a) (f .b) v) (q .hole) j → ⊥
+    past v rests j u w = ⊎-elim this-way other-way (same-or-not (eqb (valueOf (f .before) (f .a)) (valueOf (f .before) (f .b))) (eqb (valueOf v (f .a)) (valueOf v (f .b))))
+      where
+        y' : Thread
+        y' = branchDone (f .over) (f .a) (f .b) v
+
+        this-way : eqb (valueOf (f .before) (f .a)) (valueOf (f .before) (f .b)) ≡ eqb (valueOf v (f .a)) (valueOf v (f .b)) → ⊥
+        this-way e =
+            this .barren y' (rests-less (covers .0) (subst (λ (t : Thread). Rests (both .of) t y') (sym (f .after)) (branch-rests (f .over) (f .a) (f .b) (f .before) v (both .of) rests (ap (λ (t : Bool). branchBy t (f .over)) e)))) j u w
+
+        other-way : not (eqb (valueOf (f .before) (f .a)) (valueOf (f .before) (f .b))) ≡ eqb (valueOf v (f .a)) (valueOf v (f .b)) → ⊥
+        other-way e =
+            let at : o ≡ v .position + branchBy (eqb (valueOf v (f .a)) (valueOf v (f .b))) (f .over) = f .other-way ∙ ap₂ (λ (n : ℕ) (t : Bool). n + branchBy t (f .over)) (rests .under .same-position) e in
+            let is : atPosition (branchDone (f .over) (f .a) (f .b) (f .before)) o ≡ z = sym (ze ∙ ap (λ (t : Thread). atPosition t o) (f .after)) in
+            other .barren y' (rests-less (covers .1) (subst (λ (t : Thread). Rests (both .of) t y') is (other-rests (f .over) (f .a) (f .b) (f .before) v (both .of) rests o at))) j (subst (λ (l : Met). Unmet (q .from) l j) same u) w
+
+    pub both-found : Found (q .from) (q .met) (λ v j. Meets c i m v (q .hole) j) s (record { met = r .met; cares = k })
+    both-found =
+        record {
+          better = straight-better c i m s y lead q (this .better);
+          barren = λ s' rests j u w.
+              let b = back s' rests in
+              let v = b .0 in
+              let at : instrAt c (v .position) ≡ some (Branch (f .over) (f .a) (f .b)) = ap (instrAt c) (sym (b .1 .1 .under .same-position)) ∙ f .is-next in
+              let y' = branchDone (f .over) (f .a) (f .b) v in
+              past v (b .1 .1) j u (leads-back (on (Branch (f .over) (f .a) (f .b)) y' at (plain-branch _ v y' refl refl) here) i (q .hole) j (leads-back (b .1 .0) i (q .hole) j w));
+        }
