@@ -2,19 +2,22 @@
 -- Assumes nothing.
 use mathlib.Core.Path.{_≡_, refl, sym, ap, ap₂, subst, _∙_}
 use mathlib.Core.Logic.{⊎-elim}
-use mathlib.Core.Bool.{Bool, true, false, cond}
+use mathlib.Core.Bool.{Bool, true, false, cond, _&&_}
 use Prim.Native.Nat.{ℕ, zero, suc, _+_, _-_, _*_, _/_, _%_, _≤_, _<_}
 use native.Mathlib.Nat.{add-comm, div-add-mod'}
 use native.Mathlib.Omega.{arith}
 use lib.Arith.{bin-ind}
 use lib.Bits.{bitXor, differ, xor-step, xor-comm, xor-lt, xor-shr, xor-mod}
-use lib.Dec.{eqb}
-use borrow.Author.Tests.{ne-eqb}
-use Rattle.source.specs.Program.{computeMode}
-use Rattle.machine.specs.Rules.{address, combine, branchBy}
+use lib.Dec.{T, eqb, eqb→eq}
+use borrow.Author.Tests.{eq-eqb, ne-eqb}
+use Rattle.source.proofs.Tests.{and-left, and-right}
+use Rattle.source.specs.declared.Instruction.{Instruction}
+use Rattle.source.specs.Program.{operand, computeMode}
+use Rattle.machine.specs.Rules.{address, valueOf, combine, branchBy}
+use Rattle.machine.specs.declared.Thread.{Thread}
 use Rattle.source.specs.declared.ComputeMode.{ComputeMode}
 use Rattle.source.specs.declared.ComputeMode.the-variants.{Add, Subtract, ExclusiveOr, Equal}
-use Rattle.cares.specs.Cares.{Marked, free, other, Agrees, same, alike}
+use Rattle.cares.specs.Cares.{Marked, free, other, Agrees, same, alike, firstOf, secondOf}
 use Rattle.cares.proofs.Agreeing.{same-value, not-barred, same-address, not-that, by-code}
 
 -- ---- the address of a computed value
@@ -231,6 +234,20 @@ no-skip n true true e = refl
 no-skip n true false e = omega arith
 no-skip n false true e = omega arith
 no-skip n false false e = refl
+
+-- one that compares an operand with itself too
+pub one-operand : (i : Instruction) → (eqb (i .k1) (i .k2) && eqb (i .n1) (i .n2)) ≡ true → (s s' : Thread)
+    → branchBy (eqb (valueOf s (firstOf i)) (valueOf s (secondOf i))) (i .m) ≡ branchBy (eqb (valueOf s' (firstOf i)) (valueOf s' (secondOf i))) (i .m)
+one-operand i e s s' = ap (λ (t : Bool). branchBy t (i .m)) (equal s ∙ sym (equal s'))
+  where
+    both : T (eqb (i .k1) (i .k2) && eqb (i .n1) (i .n2))
+    both = subst T (sym e) tt
+
+    same-operand : firstOf i ≡ secondOf i
+    same-operand = ap₂ operand (eqb→eq _ _ (and-left (eqb (i .k1) (i .k2)) (eqb (i .n1) (i .n2)) both)) (eqb→eq _ _ (and-right (eqb (i .k1) (i .k2)) (eqb (i .n1) (i .n2)) both))
+
+    equal : (v : Thread) → eqb (valueOf v (firstOf i)) (valueOf v (secondOf i)) ≡ true
+    equal v = eq-eqb _ _ (ap (valueOf v) same-operand)
 
 -- ---- what the operands hold, as a step tells it
 module _ {f g x y v w v' w' : ℕ} (e : x ≡ v) (e' : y ≡ w) (p : Agrees f v v') (q : Agrees g w w') where

@@ -250,7 +250,7 @@ pub fn before_compute(of: &mut [u32; 8], e: Step)
     note(of, i.k2, i.n2, shares.second);
 }
 
-// Before a branch.
+// Before a branch. One that compares an operand with itself goes one way.
 pub fn before_branch(of: &mut [u32; 8], e: Step)
     requires { ⌜ length (now of) ≡ 8 ⌝ }
     ensures { λ _. ⌜ length (now (of .exit)) ≡ 8 ⌝ }
@@ -259,6 +259,9 @@ pub fn before_branch(of: &mut [u32; 8], e: Step)
         × (branchBy (eqb (valueOf s (firstOf (e .instruction))) (valueOf s (secondOf (e .instruction)))) (e .instruction .m) ≡ branchBy (eqb (valueOf s' (firstOf (e .instruction))) (valueOf s' (secondOf (e .instruction)))) (e .instruction .m))) ⌝ }
 {
     let i = e.instruction;
+    if (i.k1 == i.k2) & (i.n1 == i.n2) {
+        return;
+    }
     let shares = branch_shares(i.m, e.first, e.second, e.earlier);
     note(of, i.k1, i.n1, shares.first);
     note(of, i.k2, i.n2, shares.second);

@@ -5,7 +5,7 @@ use mathlib.Core.Logic.{_⊎_, inl, inr, ⊎-elim}
 use mathlib.Core.Bool.{true, _||_, cond}
 use mathlib.Core.List.{List}
 use mathlib.Core.Option.{none, some, Option·some-injective}
-use Prim.Native.Nat.{ℕ, _≤_}
+use Prim.Native.Nat.{ℕ, _≤_, _<_}
 use native.Mathlib.Nat.{le-refl}
 use native.Mathlib.Omega.{arith}
 use lib.Dec.{T, eqb, eqb→eq}
@@ -102,6 +102,11 @@ leads-on {c} {s} {y} {y'} x l g e = go l
 pub walked-leads : {c : Code} {s y : Thread} {steps : List Step} {j : ℕ} → Walked c s steps j y → Leads c s y
 walked-leads start = here
 walked-leads (further x w g p i t) = leads-on x (walked-leads w) g p
+
+-- to another instruction that has more ways, or to the end, if the first is not such a one
+pub walked-further : {c : Code} {s y : Thread} {steps : List Step} {j : ℕ} → Walked c s steps j y → Halts c y → (Halts c s → ⊥) → s .position < y .position
+walked-further start h n = absurd (n h)
+walked-further (further {y = y} {y' = y'} x w g p i t) h n = let a = leads-further (walked-leads w) in let b = moves (plain-effect x y y' p freshMemory) in omega arith
 
 -- ---- what the code does
 module _ (x : Instr) (y y' : Thread) where

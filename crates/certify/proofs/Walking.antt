@@ -4,8 +4,9 @@ use mathlib.Core.Path.{_≡_, refl, sym, ap, subst, _∙_}
 use mathlib.Core.Logic.{_⊎_, inl, inr}
 use mathlib.Core.Bool.{Bool, true, false, not, _||_}
 use mathlib.Core.List.{List}
-use mathlib.Core.Option.{some, Option·some-injective}
+use mathlib.Core.Option.{none, some, Option·some-injective}
 use Prim.Native.Nat.{ℕ, suc, max, _+_, _-_, _%_, _≤_, _<_}
+use native.Mathlib.Decide.{ℕ-discrete}
 use native.Mathlib.Omega.{arith}
 use lib.Dec.{eqb}
 use lib.ListN.{length, length-set, getD, set, List·getD-eq-default}
@@ -80,6 +81,22 @@ module _ (c : Code) (n : ℕ) (l : n < c .count) where
   -- a branch lands in the code or at its end
   branch-lands : CodeOk c → (instructionAt c n) .op ≡ 3 → n + suc ((instructionAt c n) .m) ≤ c .count
   branch-lands o e = o .lands n ((instructionAt c n) .m) (firstOf (instructionAt c n)) (secondOf (instructionAt c n)) (instr-is ∙ ap some (op-branch (instructionAt c n) e))
+
+  -- any other than a load or store goes on
+  pub goes-op : (s : Thread) → s .position ≡ n → (eqb ((instructionAt c n) .op) 1 || eqb ((instructionAt c n) .op) 2) ≡ false → Halts c s → ⊥
+  goes-op s at plain h = elim (ℕ-discrete (i .op) 0) [
+    | yes e ↦ no-thread (sym stuck ∙ plain-compute (decode i) s _ (op-compute i e) refl)
+    | no d ↦ elim (ℕ-discrete (i .op) 3) [
+      | yes e ↦ no-thread (sym stuck ∙ plain-branch (decode i) s _ (op-branch i e) refl)
+      | no d' ↦ no-thread (sym stuck ∙ plain-fence (decode i) s _ (op-rest i plain d d') refl)
+    ]
+  ]
+    where
+      i : Instruction
+      i = instructionAt c n
+
+      stuck : plainly (decode i) s ≡ none
+      stuck = h (decode i) (ap (instrAt c) at ∙ instr-is)
 
 -- ---- on the way
 -- by j instructions s has come to position n, with these registers and views

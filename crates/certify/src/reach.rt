@@ -19,6 +19,7 @@ use crate::idle::lowered;
 use crate::own_message;
 use crate::straight::Walk;
 use crate::straight::before_straight;
+use crate::straight::halts;
 use crate::straight::straight;
 use crate::vain::in_vain;
 use crate::window::earliest;
@@ -203,25 +204,27 @@ pub fn search_runs(c: Code, i: u8, m: Memory, s: Thread, q: Sought) -> Reached
     ensures { λ r. ⌜ Found (q .from) (q .met) (λ y k. Meets c i m y (q .hole) k) s r ⌝ }
 {
     let nothing = Cares { of: [0; 8] };
-    let w = straight(c, s, 12 <= m.count);
-    let y = w.thread;
-    if kept(y, q) {
+    if kept(s, q) {
         return Reached {
             met: emptied(q),
             cares: nothing,
         };
     }
-    if w.other != 0 {
-        return both_ways(c, i, m, s, w, q);
-    }
-    if c.count <= y.position {
+    if c.count <= s.position {
         let met = q.met;
         return Reached {
             met: met,
-            cares: before_straight(w, w.count, nothing),
+            cares: nothing,
         };
     }
-    let r = search_at(c, i, m, y, c.instr_at(y.position), q);
+    if halts(c, s.position) {
+        return search_at(c, i, m, s, c.instr_at(s.position), q);
+    }
+    let w = straight(c, s, 12 <= m.count);
+    if w.other != 0 {
+        return both_ways(c, i, m, s, w, q);
+    }
+    let r = search_runs(c, i, m, w.thread, q);
     let met = r.met;
     if met.ended(q.from) {
         return r;

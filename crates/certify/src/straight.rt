@@ -1,6 +1,7 @@
 // The instructions that have one way to go on, taken at once: computes, branches and fences; and what a failure after them rests on before
 // them.
 ghost use mathlib.Core.Path.{_≡_};
+ghost use mathlib.Core.Bool.{true, false};
 ghost use Prim.Native.Nat.{_+_, _%_, _≤_, _<_};
 ghost use lib.Dec.{eqb};
 ghost use lib.ListN.{length, getD};
@@ -10,7 +11,7 @@ ghost use Rattle.machine.specs.State.{freshRegister};
 ghost use Rattle.machine.specs.Rules.{valueOf, viewOf, combine, branchBy, fenceViews};
 ghost use Rattle.certify.specs.Below.{Code, Thread};
 ghost use Rattle.certify.specs.Under.{Rests};
-ghost use Rattle.certify.specs.Straight.{Leads, resultOf, stepOver, standing, Walked, Ended};
+ghost use Rattle.certify.specs.Straight.{Leads, Halts, resultOf, stepOver, standing, Walked, Ended};
 use cares::Cares;
 use cares::before::Step;
 use cares::before::before_branch;
@@ -87,6 +88,11 @@ fn passed(m: u8, x: u8, y: u8) -> u8
     if x == y { m + 1 } else { 1 }
 }
 
+// A branch that is worth to be looked at both ways: it compares two registers. With a constant, that the register is another value says enough.
+fn open(i: Instruction) -> bool {
+    (i.m != 0) & (i.k1 != 0) & (i.k2 != 0) & (i.n1 != i.n2)
+}
+
 // What a fence of mode m makes of the views.
 fn fenced(m: u8, w: Views) -> Views
     ensures { λ r. ⌜ r ≡ fenceViews (fenceMode m) w ⌝ }
@@ -110,6 +116,15 @@ fn standing(mut s: Thread, registers: [Register; 8], n: u8, views: Views) -> Thr
     s.position = n;
     s.views = views;
     s
+}
+
+// The instruction at position n is a load or store.
+pub fn halts(c: Code, n: u8) -> bool
+    requires { ⌜ (c .count ≤ 16) × (n < c .count) ⌝ }
+    ensures { λ r. ⌜ ((s : Thread) → s .position ≡ n → (r ≡ true → Halts c s) × (r ≡ false → Halts c s → ⊥)) ⌝ }
+{
+    let i = c.instructions[n as usize];
+    (i.op == 1) | (i.op == 2)
 }
 
 // The thread at its next load or store, or at its end, or, if branches are to be looked at both ways, after the next branch; and the computes,
@@ -145,7 +160,7 @@ pub fn straight(c: Code, s: Thread, both_ways: bool) -> Walk
         } else if i.op == 3 {
             let by = passed(i.m, a.value, b.value);
             views = views.raise_cap(larger(a.view, b.view));
-            if both_ways & (i.m != 0) & (i.k1 != 0) & (i.k2 != 0) {
+            if both_ways & open(i) {
                 return Walk {
                     thread: standing(s, registers, n + by, views),
                     steps: steps,

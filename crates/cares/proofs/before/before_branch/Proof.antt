@@ -1,9 +1,12 @@
--- `cares::before::before_branch` meets its contract: the first operand is noted, then the second.
+-- `cares::before::before_branch` meets its contract: an operand that is compared with itself is not noted; else the first is, then the second.
 -- Assumes nothing.
-use Rattle.cares.proofs.Results.{way-told}
+use Rattle.cares.proofs.Results.{one-operand, way-told}
 use borrow.Author.Needs.{needs}
 use Rattle.cares.proofs.before.before_branch.Statement.{statement}
 use Rattle.cares.proofs.before.before_branch.Tie as tie
+
+returns : tie.Need-returns
+returns c = let b = c .before .before .before .before in (b .pre, λ s s' told h. (h, one-operand (b .args .e .instruction) (c .if1 .taken) s s'))
 
 branch-shares-requires : tie.Need-branch-shares-requires
 branch-shares-requires c κs = search needs
@@ -14,9 +17,9 @@ note-requires c κs = search needs
 note-requires-2 : tie.Need-note-requires-2
 note-requires-2 c κs = search needs
 
-returns : tie.Need-returns
-returns c =
-    let e = c .before .before .before .before .before .before .args .e in (
+returns-2 : tie.Need-returns-2
+returns-2 c =
+    let e = c .before .before .before .before .before .before .before .before .before .args .e in (
       c .note2 .ensures .0,
       λ s s' told h.
           let q = c .note2 .ensures .1 s s' h in
@@ -26,4 +29,4 @@ returns c =
 
 pub before-branch-spec : {M : Type 1} → statement M
 before-branch-spec =
-    tie.close (tie.spec branch-shares-requires note-requires note-requires-2 returns)
+    tie.close (tie.spec returns branch-shares-requires note-requires note-requires-2 returns-2)

@@ -15,8 +15,9 @@ use Rattle.machine.proofs.Effects.{effect}
 use Rattle.cares.specs.Cares.{Covers}
 use Rattle.certify.specs.Below.{Thread}
 use Rattle.certify.specs.Sought.{Better, same, Meets, Missed}
+use Rattle.certify.specs.Straight.{here}
 use Rattle.certify.proofs.Trying.{ready-after, ready-lowered, ready-at, ready-own, reach-byte}
-use Rattle.certify.proofs.Plain.{leads-further, leads-ready, walked-leads}
+use Rattle.certify.proofs.Plain.{leads-ready, walked-leads, walked-further}
 use Rattle.certify.proofs.Numbers.{better-on}
 use Rattle.certify.proofs.Finding.{covers-self, covers-on}
 use Rattle.certify.proofs.Filling.{fill-no-hole, fill-none, fill-unsought, fill-here, fill-fails, alone-kept, alone-lost, hole-time, trying-filled, keeps-refused, keeps-done}
@@ -70,6 +71,7 @@ use Rattle.certify.proofs.reach.kept.Reads as kept-reads
 use Rattle.certify.proofs.reach.noted.Reads as noted-reads
 use Rattle.certify.proofs.reach.untried.Reads as untried-reads
 use Rattle.certify.proofs.straight.before_straight.Reads as before-straight-reads
+use Rattle.certify.proofs.straight.halts.Reads as halts-reads
 use Rattle.certify.proofs.straight.straight.Reads as straight-reads
 use Rattle.certify.proofs.window.earliest.Reads as earliest-reads
 use Rattle.certify.proofs.window.following.Reads as following-reads
@@ -172,7 +174,7 @@ abbrev search-at-claims : ℕ → search-at-lts.Claims
 search-at-claims t = (earliest-reads.Asked, earliest-reads.Learnt, filled-below t, filled.Post, untried-reads.Asked, untried-reads.Learnt, try-at-below t, try-at.Post, ended-reads.Asked, ended-reads.Learnt, following-reads.Asked, following-reads.Learnt, appends-reads.Asked, appends-reads.Learnt, after-reads.Asked, after-reads.Learnt, own-reached-below t, own-reached.Post, asks-reads.Asked, asks-reads.Learnt, and-reads.Asked, and-reads.Learnt)
 
 abbrev search-runs-claims : ℕ → search-runs-lts.Claims
-search-runs-claims t = (straight-reads.Asked, straight-reads.Learnt, kept-reads.Asked, kept-reads.Learnt, emptied-reads.Asked, emptied-reads.Learnt, both-ways-below t, both-ways.Post, before-straight-reads.Asked, before-straight-reads.Learnt, instr-at-reads.Asked, instr-at-reads.Learnt, search-at-below t, search-at.Post, ended-reads.Asked, ended-reads.Learnt)
+search-runs-claims t = (kept-reads.Asked, kept-reads.Learnt, emptied-reads.Asked, emptied-reads.Learnt, halts-reads.Asked, halts-reads.Learnt, instr-at-reads.Asked, instr-at-reads.Learnt, search-at-below t, search-at.Post, straight-reads.Asked, straight-reads.Learnt, both-ways-below t, both-ways.Post, search-runs-below t, search-runs.Post, ended-reads.Asked, ended-reads.Learnt, before-straight-reads.Asked, before-straight-reads.Learnt)
 
 abbrev try-at-claims : ℕ → try-at-lts.Claims
 try-at-claims t = (hopeless-reads.Asked, hopeless-reads.Learnt, execute-reads.Asked, execute-reads.Learnt, after-reads.Asked, after-reads.Learnt, kept-reads.Asked, kept-reads.Learnt, emptied-reads.Asked, emptied-reads.Learnt, idle-reads.Asked, idle-reads.Learnt, lowered-reads.Asked, lowered-reads.Learnt, search-runs-below t, search-runs.Post, noted-reads.Asked, noted-reads.Learnt)
@@ -453,9 +455,6 @@ search-at-and-requires t c κs = search needs
 search-at-returns-3 : (t : ℕ) → search-at-lts.Need-returns-3 (search-at-claims t) (search-at-at t) search-at.Post search-at-Inv-loop search-at-μ-loop
 search-at-returns-3 t c = reach-all _ _ _ _ (c .before .before .before .before .before .before .before .before .before .before .before .before .before .before .before .args .q) _ (c .before .before .before .before .before .before .before .before .before .before .before .before .before .before .before .pre .1 .0 .is-next) _ (c .before .before .before .before .before .before .before .before .before .before .before .before .before .filled .ensures) (c .before .before .before .before .before .before .before .before .before .before .before .before .before .before .before .pre .1 .1) (c .before .before .before .before .before .before .before .before .before .before .before .before .before .before .before .pre .1 .0 .ready .room) _ _ (rw (c .before .before .before .before .before .before .before .before .before .before .before .before .untried .ensures) at (c .before .before .before .before .before .before .before .before .before .before .before .loop .inv .1 .0)) (rw (c .before .before .before .before .before .before .before .before .before .before .before .before .untried .ensures) at (c .before .before .before .before .before .before .before .before .before .before .before .loop .inv .1 .1 .0)) (c .before .before .before .before .before .before .before .before .before .before .before .loop .inv .0) (c .before .before .before .before .before .before .before .before .before .before .loop-test .left) _ (rw (c .before .before .before .before .before .before .before .before .after .ensures) at (c .before .before .before .before .before .before .before .own-reached .ensures .0)) (c .before .before .before .before .before .before .before .own-reached .ensures .1) _ (c .before .before .after2 .ensures) _ (c .before .asks .ensures) _ (c .and .ensures)
 
-search-runs-straight-requires : (t : ℕ) → search-runs-lts.Need-straight-requires (search-runs-claims t) (search-runs-at t) search-runs.Post
-search-runs-straight-requires t c κs = c .before .pre .1 .code-ok
-
 search-runs-kept-requires : (t : ℕ) → search-runs-lts.Need-kept-requires (search-runs-claims t) (search-runs-at t) search-runs.Post
 search-runs-kept-requires t c κs = search needs
 
@@ -463,37 +462,46 @@ search-runs-emptied-requires : (t : ℕ) → search-runs-lts.Need-emptied-requir
 search-runs-emptied-requires t c κs = search needs
 
 search-runs-returns : (t : ℕ) → search-runs-lts.Need-returns (search-runs-claims t) (search-runs-at t) search-runs.Post
-search-runs-returns t c = straight-kept _ _ _ _ _ (walked-leads (c .before .before .before .before .straight .ensures .1 .0)) (c .before .before .before .before .before .before .args .q) (c .before .before .kept .ensures .0 (c .before .if1 .taken)) _ (c .emptied .ensures) _
-
-search-runs-both-ways-requires : (t : ℕ) → search-runs-lts.Need-both-ways-requires (search-runs-claims t) (search-runs-at t) search-runs.Post
-search-runs-both-ways-requires t c κs = (omega (arith, c .before .before .before .before .before .before .before .pre .0), (c .before .before .before .before .before .before .before .pre .1, (c .before .before .before .before .before .straight .ensures .0 .forks (c .if2 .taken), c .before .before .before .before .before .straight .ensures .1)))
+search-runs-returns t c = straight-kept _ _ _ _ _ here (c .before .before .before .args .q) (c .before .before .kept .ensures .0 (c .before .if1 .taken)) _ (c .emptied .ensures) _
 
 search-runs-returns-2 : (t : ℕ) → search-runs-lts.Need-returns-2 (search-runs-claims t) (search-runs-at t) search-runs.Post
-search-runs-returns-2 t c = c .both-ways .ensures
+search-runs-returns-2 t c = reach-end _ _ _ _ (c .before .before .before .before .before .before .args .q) (c .before .before .before .before .before .kept .ensures .1 (c .before .before .before .before .if1 .left)) (c .before .if2 .taken) _
 
-search-runs-before-straight-requires : (t : ℕ) → search-runs-lts.Need-before-straight-requires (search-runs-claims t) (search-runs-at t) search-runs.Post
-search-runs-before-straight-requires t c κs = c .before .before .before .before .before .before .before .before .before .straight .ensures .1 .1
-
-search-runs-returns-3 : (t : ℕ) → search-runs-lts.Need-returns-3 (search-runs-claims t) (search-runs-at t) search-runs.Post
-search-runs-returns-3 t c = straight-found _ _ _ _ _ (walked-leads (c .before .before .before .before .before .before .before .before .before .before .straight .ensures .1 .0)) (c .before .before .before .before .before .before .before .before .before .before .before .before .args .q) _ (reach-end _ _ _ _ (c .before .before .before .before .before .before .before .before .before .before .before .before .args .q) (c .before .before .before .before .before .before .before .before .kept .ensures .1 (c .before .before .before .before .before .before .before .if1 .left)) (c .before .before .if3 .taken) _) _ (λ s'. c .before-straight .ensures _ _ _ s' (c .before .before .before .before .before .before .before .before .before .before .straight .ensures .1 .0))
+search-runs-halts-requires : (t : ℕ) → search-runs-lts.Need-halts-requires (search-runs-claims t) (search-runs-at t) search-runs.Post
+search-runs-halts-requires t c κs = (c .before .before .before .before .before .pre .1 .code-ok .short, c .if2 .left)
 
 search-runs-instr-at-requires : (t : ℕ) → search-runs-lts.Need-instr-at-requires (search-runs-claims t) (search-runs-at t) search-runs.Post
-search-runs-instr-at-requires t c κs = let h = c .before .before .before .before .before .before .before .before .before .before .pre .1 .code-ok .short in let l = c .if3 .left in (omega arith, l)
+search-runs-instr-at-requires t c κs = let h = c .before .before .before .before .before .before .before .pre .1 .code-ok .short in let l = c .before .before .if2 .left in (omega arith, l)
 
 search-runs-search-at-requires : (t : ℕ) → search-runs-lts.Need-search-at-requires (search-runs-claims t) (search-runs-at t) search-runs.Post
-search-runs-search-at-requires t c κs = let lead = walked-leads (c .before .before .before .before .before .before .before .before .before .straight .ensures .1 .0) in let f = leads-further lead in (omega (arith, c .before .before .before .before .before .before .before .before .before .before .before .pre .0), (record { ready = leads-ready lead (c .before .before .before .before .before .before .before .before .before .before .before .pre .1); is-next = c .instr-at .ensures }, record { halting = c .before .before .before .before .before .before .before .before .before .straight .ensures .0 .halts (c .before .before .before .before .if2 .left) _ (c .instr-at .ensures); outstanding = c .before .before .before .before .before .before .before .kept .ensures .1 (c .before .before .before .before .before .before .if1 .left) }))
+search-runs-search-at-requires t c κs = (omega (arith, c .before .before .before .before .before .before .before .before .pre .0), (record { ready = c .before .before .before .before .before .before .before .before .pre .1; is-next = c .instr-at .ensures }, record { halting = c .before .before .halts .ensures _ refl .0 (c .before .if3 .taken) _ (c .instr-at .ensures); outstanding = c .before .before .before .before .before .before .before .kept .ensures .1 (c .before .before .before .before .before .before .if1 .left) }))
+
+search-runs-returns-3 : (t : ℕ) → search-runs-lts.Need-returns-3 (search-runs-claims t) (search-runs-at t) search-runs.Post
+search-runs-returns-3 t c = c .search-at .ensures
+
+search-runs-straight-requires : (t : ℕ) → search-runs-lts.Need-straight-requires (search-runs-claims t) (search-runs-at t) search-runs.Post
+search-runs-straight-requires t c κs = c .before .before .before .before .before .before .before .before .pre .1 .code-ok
+
+search-runs-both-ways-requires : (t : ℕ) → search-runs-lts.Need-both-ways-requires (search-runs-claims t) (search-runs-at t) search-runs.Post
+search-runs-both-ways-requires t c κs = (omega (arith, c .before .before .before .before .before .before .before .before .before .before .before .pre .0), (c .before .before .before .before .before .before .before .before .before .before .before .pre .1, (c .before .before .straight .ensures .0 .forks (c .if4 .taken), c .before .before .straight .ensures .1)))
+
+search-runs-returns-4 : (t : ℕ) → search-runs-lts.Need-returns-4 (search-runs-claims t) (search-runs-at t) search-runs.Post
+search-runs-returns-4 t c = c .both-ways .ensures
+
+search-runs-search-runs-requires : (t : ℕ) → search-runs-lts.Need-search-runs-requires (search-runs-claims t) (search-runs-at t) search-runs.Post
+search-runs-search-runs-requires t c κs = let w = c .before .before .straight .ensures in let l = walked-further (w .1 .0) (w .0 .halts (c .if4 .left)) (c .before .before .before .before .before .halts .ensures _ refl .1 (c .before .before .before .before .if3 .left)) in let low = c .before .before .before .before .before .before .if2 .left in let short = c .before .before .before .before .before .before .before .before .before .before .before .pre .1 .code-ok .short in (omega (arith, c .before .before .before .before .before .before .before .before .before .before .before .pre .0), leads-ready (walked-leads (w .1 .0)) (c .before .before .before .before .before .before .before .before .before .before .before .pre .1))
 
 search-runs-ended-requires : (t : ℕ) → search-runs-lts.Need-ended-requires (search-runs-claims t) (search-runs-at t) search-runs.Post
 search-runs-ended-requires t c κs = search needs
 
-search-runs-returns-4 : (t : ℕ) → search-runs-lts.Need-returns-4 (search-runs-claims t) (search-runs-at t) search-runs.Post
-search-runs-returns-4 t c = straight-ended _ _ _ _ _ (walked-leads (c .before .before .before .before .before .before .before .before .before .before .before .before .before .straight .ensures .1 .0)) (c .before .before .before .before .before .before .before .before .before .before .before .before .before .before .before .args .q) _ (c .before .before .before .search-at .ensures) (c .before .ended .ensures (c .if4 .taken))
-
-search-runs-before-straight-requires-2 : (t : ℕ) → search-runs-lts.Need-before-straight-requires-2 (search-runs-claims t) (search-runs-at t) search-runs.Post
-search-runs-before-straight-requires-2 t c κs = c .before .before .before .before .before .before .before .before .before .before .before .before .before .before .straight .ensures .1 .1
-
 search-runs-returns-5 : (t : ℕ) → search-runs-lts.Need-returns-5 (search-runs-claims t) (search-runs-at t) search-runs.Post
-search-runs-returns-5 t c = straight-found _ _ _ _ _ (walked-leads (c .before .before .before .before .before .before .before .before .before .before .before .before .before .before .before .straight .ensures .1 .0)) (c .before .before .before .before .before .before .before .before .before .before .before .before .before .before .before .before .before .args .q) _ (c .before .before .before .before .before .search-at .ensures) _ (λ s'. c .before-straight2 .ensures _ _ _ s' (c .before .before .before .before .before .before .before .before .before .before .before .before .before .before .before .straight .ensures .1 .0))
+search-runs-returns-5 t c = straight-ended _ _ _ _ _ (walked-leads (c .before .before .before .before .before .before .straight .ensures .1 .0)) (c .before .before .before .before .before .before .before .before .before .before .before .before .before .before .before .args .q) _ (c .before .before .before .search-runs .ensures) (c .before .ended .ensures (c .if5 .taken))
+
+search-runs-before-straight-requires : (t : ℕ) → search-runs-lts.Need-before-straight-requires (search-runs-claims t) (search-runs-at t) search-runs.Post
+search-runs-before-straight-requires t c κs = c .before .before .before .before .before .before .before .straight .ensures .1 .1
+
+search-runs-returns-6 : (t : ℕ) → search-runs-lts.Need-returns-6 (search-runs-claims t) (search-runs-at t) search-runs.Post
+search-runs-returns-6 t c = straight-found _ _ _ _ _ (walked-leads (c .before .before .before .before .before .before .before .before .straight .ensures .1 .0)) (c .before .before .before .before .before .before .before .before .before .before .before .before .before .before .before .before .before .args .q) _ (c .before .before .before .before .before .search-runs .ensures) _ (λ s'. c .before-straight .ensures _ _ _ s' (c .before .before .before .before .before .before .before .before .straight .ensures .1 .0))
 
 try-at-hopeless-requires : (t : ℕ) → try-at-lts.Need-hopeless-requires (try-at-claims t) (try-at-at t) try-at.Post
 try-at-hopeless-requires t c κs = let w = c .pre .1 .0 in (w .ready .code-ok .short, (w .ready .room, c .pre .1 .1 .0))
@@ -654,20 +662,22 @@ pub +both-ways+filled+keeps+own-reached+search-at+search-runs+try-at-spec : {M :
     (search-at-returns-3 t))
     (λ t. search-runs-lts.spec (search-runs-claims t) (search-runs-at t)
     search-runs.Post
-    (search-runs-straight-requires t)
     (search-runs-kept-requires t)
     (search-runs-emptied-requires t)
     (search-runs-returns t)
-    (search-runs-both-ways-requires t)
     (search-runs-returns-2 t)
-    (search-runs-before-straight-requires t)
-    (search-runs-returns-3 t)
+    (search-runs-halts-requires t)
     (search-runs-instr-at-requires t)
     (search-runs-search-at-requires t)
-    (search-runs-ended-requires t)
+    (search-runs-returns-3 t)
+    (search-runs-straight-requires t)
+    (search-runs-both-ways-requires t)
     (search-runs-returns-4 t)
-    (search-runs-before-straight-requires-2 t)
-    (search-runs-returns-5 t))
+    (search-runs-search-runs-requires t)
+    (search-runs-ended-requires t)
+    (search-runs-returns-5 t)
+    (search-runs-before-straight-requires t)
+    (search-runs-returns-6 t))
     λ t. try-at-lts.spec (try-at-claims t) (try-at-at t)
     try-at.Post
     (try-at-hopeless-requires t)

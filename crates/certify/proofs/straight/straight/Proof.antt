@@ -122,32 +122,35 @@ larger-requires c κs = tt
 raise-cap-requires : tie.Need-raise-cap-requires Inv-loop μ-loop
 raise-cap-requires c κs = tt
 
+open-requires : tie.Need-open-requires Inv-loop μ-loop
+open-requires c κs = tt
+
 add-standing : tie.Need-add-standing Inv-loop μ-loop
-add-standing c = let h = turn-lands (turn-at (c .before .before .before .before .before .before .before .before .before .before .before)) (c .before .before .before .before .before .before .before .before .before .before .before .before .before .before .before .before .before .before .before .before .before .before .before .before .before .before .before .pre) (c .before .before .before .before .before .before .before .if4 .taken) in let p = c .before .before .before .before .before .before .passed .ensures .1 .1 in omega arith
+add-standing c = let h = turn-lands (turn-at (c .before .before .before .before .before .before .before .before .before)) (c .before .before .before .before .before .before .before .before .before .before .before .before .before .before .before .before .before .before .before .before .before .before .before .before .before .pre) (c .before .before .before .before .before .if4 .taken) in let p = c .before .before .before .before .passed .ensures .1 .1 in omega arith
 
 standing-requires-2 : tie.Need-standing-requires-2 Inv-loop μ-loop
 standing-requires-2 c κs = tt
 
-add-t53 : tie.Need-add-t53 Inv-loop μ-loop
-add-t53 c = let h = turn-lands (turn-at (c .before .before .before .before .before .before .before .before .before .before .before .before .before)) (c .before .before .before .before .before .before .before .before .before .before .before .before .before .before .before .before .before .before .before .before .before .before .before .before .before .before .before .before .before .pre) (c .before .before .before .before .before .before .before .before .before .if4 .taken) in omega arith
+add-t49 : tie.Need-add-t49 Inv-loop μ-loop
+add-t49 c = let h = turn-lands (turn-at (c .before .before .before .before .before .before .before .before .before .before .before)) (c .before .before .before .before .before .before .before .before .before .before .before .before .before .before .before .before .before .before .before .before .before .before .before .before .before .before .before .pre) (c .before .before .before .before .before .before .before .if4 .taken) in omega arith
 
-sub-t54 : tie.Need-sub-t54 Inv-loop μ-loop
-sub-t54 c = let p = c .before .before .before .before .before .before .before .before .passed .ensures .1 .1 in omega arith
+sub-t50 : tie.Need-sub-t50 Inv-loop μ-loop
+sub-t50 c = let p = c .before .before .before .before .before .before .passed .ensures .1 .1 in omega arith
 
-add-t55 : tie.Need-add-t55 Inv-loop μ-loop
-add-t55 c = let h = turn-lands (turn-at (c .before .before .before .before .before .before .before .before .before .before .before .before .before)) (c .before .before .before .before .before .before .before .before .before .before .before .before .before .before .before .before .before .before .before .before .before .before .before .before .before .before .before .before .before .pre) (c .before .before .before .before .before .before .before .before .before .if4 .taken) in let p = c .before .before .before .before .before .before .before .before .passed .ensures .1 .1 in omega arith
+add-t51 : tie.Need-add-t51 Inv-loop μ-loop
+add-t51 c = let h = turn-lands (turn-at (c .before .before .before .before .before .before .before .before .before .before .before)) (c .before .before .before .before .before .before .before .before .before .before .before .before .before .before .before .before .before .before .before .before .before .before .before .before .before .before .before .pre) (c .before .before .before .before .before .before .before .if4 .taken) in let p = c .before .before .before .before .before .before .passed .ensures .1 .1 in omega arith
 
 returns-2 : tie.Need-returns-2 Inv-loop μ-loop
-returns-2 c = turn-fork (turn-at (c .before .before .before .before .before .before .before .before .before .before .before .before .before)) (c .before .before .before .before .before .before .before .before .before .if4 .taken) _ (c .before .before .before .before .before .before .before .before .passed .ensures .1 .0) (c .before .before .before .before .before .before .before .before .passed .ensures .0) _ (rw (c .before .before .before .before .before .before .raise-cap .ensures, c .before .before .before .before .before .before .before .larger .ensures) refl) (c .before .before .before .before .before .before .before .before .passed .ensures .1 .1) _ (c .before .standing2 .ensures) _ refl
+returns-2 c = turn-fork (turn-at (c .before .before .before .before .before .before .before .before .before .before .before)) (c .before .before .before .before .before .before .before .if4 .taken) _ (c .before .before .before .before .before .before .passed .ensures .1 .0) (c .before .before .before .before .before .before .passed .ensures .0) _ (rw (c .before .before .before .before .raise-cap .ensures, c .before .before .before .before .before .larger .ensures) refl) (c .before .before .before .before .before .before .passed .ensures .1 .1) _ (c .before .standing2 .ensures) _ refl
 
 add-n-2 : tie.Need-add-n-2 Inv-loop μ-loop
-add-n-2 c = let h = turn-lands (turn-at (c .before .before .before .before .before .before .before .before .before .before .before)) (c .before .before .before .before .before .before .before .before .before .before .before .before .before .before .before .before .before .before .before .before .before .before .before .before .before .before .before .pre) (c .before .before .before .before .before .before .before .if4 .taken) in let p = c .before .before .before .before .before .before .passed .ensures .1 .1 in omega arith
+add-n-2 c = let h = turn-lands (turn-at (c .before .before .before .before .before .before .before .before .before)) (c .before .before .before .before .before .before .before .before .before .before .before .before .before .before .before .before .before .before .before .before .before .before .before .before .before .pre) (c .before .before .before .before .before .if4 .taken) in let p = c .before .before .before .before .passed .ensures .1 .1 in omega arith
 
 loop-less-3 : tie.Need-loop-less-3 Inv-loop μ-loop
-loop-less-3 c = let l = c .before .before .before .before .before .before .before .before .before .before .before .before .before .before .before .before .before .before .before .before .before .before .loop-test .taken in let s = c .before .before .before .before .before .before .before .before .before .before .before .before .before .before .before .before .before .before .before .before .before .before .before .before .before .before .before .pre .short in let z = c .before .before .before .before .before .before .passed .ensures .1 .0 in omega arith
+loop-less-3 c = let l = c .before .before .before .before .before .before .before .before .before .before .before .before .before .before .before .before .before .before .before .before .loop-test .taken in let s = c .before .before .before .before .before .before .before .before .before .before .before .before .before .before .before .before .before .before .before .before .before .before .before .before .before .pre .short in let z = c .before .before .before .before .passed .ensures .1 .0 in omega arith
 
 loop-again-3 : tie.Need-loop-again-3 Inv-loop μ-loop
-loop-again-3 c = turn-branch (turn-at (c .before .before .before .before .before .before .before .before .before .before .before)) (c .before .before .before .before .before .before .before .if4 .taken) _ (c .before .before .before .before .before .before .passed .ensures .1 .0) (c .before .before .before .before .before .before .passed .ensures .0) _ (rw (c .before .before .before .before .raise-cap .ensures, c .before .before .before .before .before .larger .ensures) refl)
+loop-again-3 c = turn-branch (turn-at (c .before .before .before .before .before .before .before .before .before)) (c .before .before .before .before .before .if4 .taken) _ (c .before .before .before .before .passed .ensures .1 .0) (c .before .before .before .before .passed .ensures .0) _ (rw (c .before .before .raise-cap .ensures, c .before .before .before .larger .ensures) refl)
 
 add-n-3 : tie.Need-add-n-3 Inv-loop μ-loop
 add-n-3 c = let l = c .before .before .before .before .before .before .before .before .before .before .before .before .before .before .before .loop-test .taken in let s = c .before .before .before .before .before .before .before .before .before .before .before .before .before .before .before .before .before .before .before .before .pre .short in omega arith
@@ -204,11 +207,12 @@ straight-spec =
     passed-requires
     larger-requires
     raise-cap-requires
+    open-requires
     add-standing
     standing-requires-2
-    add-t53
-    sub-t54
-    add-t55
+    add-t49
+    sub-t50
+    add-t51
     returns-2
     add-n-2
     loop-less-3
