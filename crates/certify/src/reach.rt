@@ -237,7 +237,8 @@ pub fn search_runs(c: Code, i: u8, m: Memory, s: Thread, q: Sought) -> Reached
 }
 
 // The same for a thread that has gone over a branch. If the other way has no number either that is sought, it does not count which way it
-// goes, so that the loads that it looks at need not be tried with each value.
+// goes, so that the loads that it looks at need not be tried with each value. Where the register counts anyway whose value would be held fast,
+// that would spare nothing.
 fn both_ways(c: Code, i: u8, m: Memory, s: Thread, w: Walk, q: Sought) -> Reached
     requires { ⌜ Ready c m s × (Forked c s (w .steps) (w .count) (w .thread) (w .other) × (Walked c s (w .steps) (w .count) (w .thread) × (w .count ≤ 16))) ⌝ }
     ensures { λ r. ⌜ Found (q .from) (q .met) (λ y k. Meets c i m y (q .hole) k) s r ⌝ }
@@ -248,6 +249,12 @@ fn both_ways(c: Code, i: u8, m: Memory, s: Thread, w: Walk, q: Sought) -> Reache
         return r;
     }
     let rests = r.cares;
+    if rests.of_register(w.held()) != 0 {
+        return Reached {
+            met: met,
+            cares: before_straight(w, w.count, rests),
+        };
+    }
     let o = search_runs(c, i, m, at_position(w.thread, w.other), q.after(met));
     let others = o.cares;
     if met.is(o.met) {

@@ -32,6 +32,20 @@ pub struct Walk {
     pub other: u8,
 }
 
+impl Walk {
+    // The register that the last step, if it is a branch, would hold fast: the one that was read earlier.
+    pub fn held(self) -> u8
+        requires { ⌜ (0 < self .count) × (self .count ≤ 16) ⌝ }
+    {
+        let e = self.steps[self.count - 1];
+        if e.earlier {
+            e.instruction.n1
+        } else {
+            e.instruction.n2
+        }
+    }
+}
+
 // What the operand (k, n) holds, and its view. Lent is what register n modulo 8 holds, so that the registers are not copied.
 fn operand_in(k: u8, n: u8, lent: Register) -> Register
     ensures { λ r. ⌜ ((s : Thread) → length (s .registers) ≡ 8 → lent ≡ getD (s .registers) (n % 8) freshRegister

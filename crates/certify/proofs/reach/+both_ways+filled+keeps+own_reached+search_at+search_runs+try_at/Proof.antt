@@ -51,6 +51,7 @@ use Rattle.certify.proofs.reach.try_at.Kinds as try-at-kinds
 use Rattle.certify.proofs.reach.+both_ways+filled+keeps+own_reached+search_at+search_runs+try_at.Lts-try_at as try-at-lts
 use Rattle.cares.proofs.Cares.and.Reads as and-reads
 use Rattle.cares.proofs.Cares.noting.Reads as noting-reads
+use Rattle.cares.proofs.Cares.of_register.Reads as of-register-reads
 use Rattle.cares.proofs.barring.Reads as barring-reads
 use Rattle.certify.proofs.Met.ended.Reads as ended-reads
 use Rattle.certify.proofs.Met.is.Reads as is-reads
@@ -70,6 +71,7 @@ use Rattle.certify.proofs.reach.hopeless.Reads as hopeless-reads
 use Rattle.certify.proofs.reach.kept.Reads as kept-reads
 use Rattle.certify.proofs.reach.noted.Reads as noted-reads
 use Rattle.certify.proofs.reach.untried.Reads as untried-reads
+use Rattle.certify.proofs.straight.Walk.held.Reads as held-reads
 use Rattle.certify.proofs.straight.before_straight.Reads as before-straight-reads
 use Rattle.certify.proofs.straight.halts.Reads as halts-reads
 use Rattle.certify.proofs.straight.straight.Reads as straight-reads
@@ -159,7 +161,7 @@ abbrev try-at-below : ℕ → In 0 try-at-kinds.ps
 try-at-below t = and 0 try-at-kinds.ps (falls 0 try-at-kinds.ps _<_ μ-try-at t) try-at.Pre
 
 abbrev both-ways-claims : ℕ → both-ways-lts.Claims
-both-ways-claims t = (search-runs-below t, search-runs.Post, ended-reads.Asked, ended-reads.Learnt, at-position-reads.Asked, at-position-reads.Learnt, after-reads.Asked, after-reads.Learnt, is-reads.Asked, is-reads.Learnt, and-reads.Asked, and-reads.Learnt, before-straight-reads.Asked, before-straight-reads.Learnt)
+both-ways-claims t = (search-runs-below t, search-runs.Post, ended-reads.Asked, ended-reads.Learnt, held-reads.Asked, held-reads.Learnt, of-register-reads.Asked, of-register-reads.Learnt, before-straight-reads.Asked, before-straight-reads.Learnt, at-position-reads.Asked, at-position-reads.Learnt, after-reads.Asked, after-reads.Learnt, is-reads.Asked, is-reads.Learnt, and-reads.Asked, and-reads.Learnt)
 
 abbrev filled-claims : ℕ → filled-lts.Claims
 filled-claims t = (has-reads.Asked, has-reads.Learnt, own-message-reads.Asked, own-message-reads.Learnt, seeks-reads.Asked, seeks-reads.Learnt, with-reads.Asked, with-reads.Learnt, view-of-reads.Asked, view-of-reads.Learnt, below-time-reads.Asked, below-time-reads.Learnt, fill-reads.Asked, fill-reads.Learnt, keeps-below t, keeps.Post)
@@ -188,6 +190,18 @@ both-ways-ended-requires t c κs = search needs
 both-ways-returns : (t : ℕ) → both-ways-lts.Need-returns (both-ways-claims t) (both-ways-at t) both-ways.Post
 both-ways-returns t c = straight-ended _ _ _ _ _ (walked-leads (c .before .before .before .before .pre .1 .1 .1 .0)) (c .before .before .before .before .args .q) _ (c .before .before .before .search-runs .ensures) (c .before .ended .ensures (c .if1 .taken))
 
+both-ways-held-requires : (t : ℕ) → both-ways-lts.Need-held-requires (both-ways-claims t) (both-ways-at t) both-ways.Post
+both-ways-held-requires t c κs = (c .before .before .before .before .before .pre .1 .1 .0 .some-step, c .before .before .before .before .before .pre .1 .1 .1 .1)
+
+both-ways-of-register-requires : (t : ℕ) → both-ways-lts.Need-of-register-requires (both-ways-claims t) (both-ways-at t) both-ways.Post
+both-ways-of-register-requires t c κs = search needs
+
+both-ways-before-straight-requires : (t : ℕ) → both-ways-lts.Need-before-straight-requires (both-ways-claims t) (both-ways-at t) both-ways.Post
+both-ways-before-straight-requires t c κs = c .before .before .before .before .before .before .before .before .pre .1 .1 .1 .1
+
+both-ways-returns-2 : (t : ℕ) → both-ways-lts.Need-returns-2 (both-ways-claims t) (both-ways-at t) both-ways.Post
+both-ways-returns-2 t c = straight-found _ _ _ _ _ (walked-leads (c .before .before .before .before .before .before .before .before .before .pre .1 .1 .1 .0)) (c .before .before .before .before .before .before .before .before .before .args .q) _ (c .before .before .before .before .before .before .before .before .search-runs .ensures) _ (λ s'. c .before-straight .ensures _ _ _ s' (c .before .before .before .before .before .before .before .before .before .pre .1 .1 .1 .0))
+
 both-ways-at-position-requires : (t : ℕ) → both-ways-lts.Need-at-position-requires (both-ways-claims t) (both-ways-at t) both-ways.Post
 both-ways-at-position-requires t c κs = search needs
 
@@ -195,28 +209,28 @@ both-ways-after-requires : (t : ℕ) → both-ways-lts.Need-after-requires (both
 both-ways-after-requires t c κs = search needs
 
 both-ways-search-runs-requires-2 : (t : ℕ) → both-ways-lts.Need-search-runs-requires-2 (both-ways-claims t) (both-ways-at t) both-ways.Post
-both-ways-search-runs-requires-2 t c κs = let f = c .before .before .before .before .before .before .before .pre .1 .1 .0 in let w = c .before .before .before .before .before .before .before .pre .1 .0 in let l = fork-other _ _ _ _ _ _ f (w .code-ok) in let at = ap (λ (v : Thread). v .position) (c .before .at-position .ensures) in (omega (arith, c .before .before .before .before .before .before .before .pre .0), ready-at (leads-ready (walked-leads (c .before .before .before .before .before .before .before .pre .1 .1 .1 .0)) w) (c .before .at-position .ensures))
+both-ways-search-runs-requires-2 t c κs = let f = c .before .before .before .before .before .before .before .before .before .before .pre .1 .1 .0 in let w = c .before .before .before .before .before .before .before .before .before .before .pre .1 .0 in let l = fork-other _ _ _ _ _ _ f (w .code-ok) in let at = ap (λ (v : Thread). v .position) (c .before .at-position .ensures) in (omega (arith, c .before .before .before .before .before .before .before .before .before .before .pre .0), ready-at (leads-ready (walked-leads (c .before .before .before .before .before .before .before .before .before .before .pre .1 .1 .1 .0)) w) (c .before .at-position .ensures))
 
 both-ways-is-requires : (t : ℕ) → both-ways-lts.Need-is-requires (both-ways-claims t) (both-ways-at t) both-ways.Post
 both-ways-is-requires t c κs = search needs
 
 both-ways-sub-before-straight : (t : ℕ) → both-ways-lts.Need-sub-before-straight (both-ways-claims t) (both-ways-at t) both-ways.Post
-both-ways-sub-before-straight t c = let h = c .before .before .before .before .before .before .before .before .before .before .before .before .pre .1 .1 .0 .some-step in omega arith
+both-ways-sub-before-straight t c = let h = c .before .before .before .before .before .before .before .before .before .before .before .before .before .before .before .pre .1 .1 .0 .some-step in omega arith
 
 both-ways-and-requires : (t : ℕ) → both-ways-lts.Need-and-requires (both-ways-claims t) (both-ways-at t) both-ways.Post
 both-ways-and-requires t c κs = search needs
 
-both-ways-before-straight-requires : (t : ℕ) → both-ways-lts.Need-before-straight-requires (both-ways-claims t) (both-ways-at t) both-ways.Post
-both-ways-before-straight-requires t c κs = let h = c .before .before .before .before .before .before .before .before .before .before .before .before .before .pre .1 .1 .1 .1 in omega arith
-
-both-ways-returns-2 : (t : ℕ) → both-ways-lts.Need-returns-2 (both-ways-claims t) (both-ways-at t) both-ways.Post
-both-ways-returns-2 t c = let f = c .before .before .before .before .before .before .before .before .before .before .before .before .before .before .pre .1 .1 .0 in both-found _ _ _ _ _ _ f _ _ (walked-leads (c .before .before .before .before .before .before .before .before .before .before .before .before .before .before .pre .1 .1 .1 .0)) (c .before .before .before .before .before .before .before .before .before .before .before .before .before .before .args .q) _ (c .before .before .before .before .before .before .before .before .before .before .before .before .before .search-runs .ensures) _ (c .before .before .before .before .before .before .before .before .at-position .ensures) _ (rw (c .before .before .before .before .before .before .before .after .ensures) at (c .before .before .before .before .before .before .search-runs2 .ensures)) (c .before .before .before .before .is .ensures (c .before .before .before .if2 .taken)) _ _ (c .before .and .ensures) (λ s'. c .before-straight .ensures _ _ _ s' (f .walked))
-
 both-ways-before-straight-requires-2 : (t : ℕ) → both-ways-lts.Need-before-straight-requires-2 (both-ways-claims t) (both-ways-at t) both-ways.Post
-both-ways-before-straight-requires-2 t c κs = c .before .before .before .before .before .before .before .before .before .before .before .pre .1 .1 .1 .1
+both-ways-before-straight-requires-2 t c κs = let h = c .before .before .before .before .before .before .before .before .before .before .before .before .before .before .before .before .pre .1 .1 .1 .1 in omega arith
 
 both-ways-returns-3 : (t : ℕ) → both-ways-lts.Need-returns-3 (both-ways-claims t) (both-ways-at t) both-ways.Post
-both-ways-returns-3 t c = straight-found _ _ _ _ _ (walked-leads (c .before .before .before .before .before .before .before .before .before .before .before .before .pre .1 .1 .1 .0)) (c .before .before .before .before .before .before .before .before .before .before .before .before .args .q) _ (c .before .before .before .before .before .before .before .before .before .before .before .search-runs .ensures) _ (λ s'. c .before-straight2 .ensures _ _ _ s' (c .before .before .before .before .before .before .before .before .before .before .before .before .pre .1 .1 .1 .0))
+both-ways-returns-3 t c = let f = c .before .before .before .before .before .before .before .before .before .before .before .before .before .before .before .before .before .pre .1 .1 .0 in both-found _ _ _ _ _ _ f _ _ (walked-leads (c .before .before .before .before .before .before .before .before .before .before .before .before .before .before .before .before .before .pre .1 .1 .1 .0)) (c .before .before .before .before .before .before .before .before .before .before .before .before .before .before .before .before .before .args .q) _ (c .before .before .before .before .before .before .before .before .before .before .before .before .before .before .before .before .search-runs .ensures) _ (c .before .before .before .before .before .before .before .before .at-position .ensures) _ (rw (c .before .before .before .before .before .before .before .after .ensures) at (c .before .before .before .before .before .before .search-runs2 .ensures)) (c .before .before .before .before .is .ensures (c .before .before .before .if3 .taken)) _ _ (c .before .and .ensures) (λ s'. c .before-straight2 .ensures _ _ _ s' (f .walked))
+
+both-ways-before-straight-requires-3 : (t : ℕ) → both-ways-lts.Need-before-straight-requires-3 (both-ways-claims t) (both-ways-at t) both-ways.Post
+both-ways-before-straight-requires-3 t c κs = c .before .before .before .before .before .before .before .before .before .before .before .before .before .before .pre .1 .1 .1 .1
+
+both-ways-returns-4 : (t : ℕ) → both-ways-lts.Need-returns-4 (both-ways-claims t) (both-ways-at t) both-ways.Post
+both-ways-returns-4 t c = straight-found _ _ _ _ _ (walked-leads (c .before .before .before .before .before .before .before .before .before .before .before .before .before .before .before .pre .1 .1 .1 .0)) (c .before .before .before .before .before .before .before .before .before .before .before .before .before .before .before .args .q) _ (c .before .before .before .before .before .before .before .before .before .before .before .before .before .before .search-runs .ensures) _ (λ s'. c .before-straight3 .ensures _ _ _ s' (c .before .before .before .before .before .before .before .before .before .before .before .before .before .before .before .pre .1 .1 .1 .0))
 
 places : (t : ℕ) (c : filled-lts.Start (filled-claims t) (filled-at t) filled.Post) → length (c .args .m .messages) ≡ 16
 places t c = search length-mapped depth 7
@@ -564,16 +578,20 @@ pub +both-ways+filled+keeps+own-reached+search-at+search-runs+try-at-spec : {M :
     (both-ways-search-runs-requires t)
     (both-ways-ended-requires t)
     (both-ways-returns t)
+    (both-ways-held-requires t)
+    (both-ways-of-register-requires t)
+    (both-ways-before-straight-requires t)
+    (both-ways-returns-2 t)
     (both-ways-at-position-requires t)
     (both-ways-after-requires t)
     (both-ways-search-runs-requires-2 t)
     (both-ways-is-requires t)
     (both-ways-sub-before-straight t)
     (both-ways-and-requires t)
-    (both-ways-before-straight-requires t)
-    (both-ways-returns-2 t)
     (both-ways-before-straight-requires-2 t)
-    (both-ways-returns-3 t))
+    (both-ways-returns-3 t)
+    (both-ways-before-straight-requires-3 t)
+    (both-ways-returns-4 t))
     (λ t. filled-lts.spec (filled-claims t) (filled-at t)
     filled.Post
     (filled-has-requires t)
