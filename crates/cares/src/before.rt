@@ -132,7 +132,8 @@ fn difference_shares(care: u32, x: u8, y: u8, earlier: bool) -> Shares
     }
 }
 
-// An exclusive or like a sum, but as an address it rests on the locations of both: what would be left of e is the exclusive or of e and the operand that keeps its value.
+// An exclusive or as an address rests on the locations of both operands. Else it is like a sum: what would be left of e is the exclusive or of
+// e and the operand that keeps its value.
 fn exclusive_shares(care: u32, x: u8, y: u8, earlier: bool) -> Shares
     ensures { λ r. ⌜ ((x' y' : ℕ) → Agrees (r .first) x x' → Agrees (r .second) y y' → Agrees care (combine ExclusiveOr x y) (combine ExclusiveOr x' y')) ⌝ }
 {

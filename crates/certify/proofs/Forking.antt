@@ -12,6 +12,7 @@ use Rattle.source.specs.Program.{instrAt}
 use Rattle.source.proofs.Counts.{there}
 use Rattle.source.proofs.Formed.{CodeOk}
 use Rattle.machine.specs.Rules.{valueOf, branchBy, branchDone}
+use Rattle.machine.proofs.Effects.{branch-moves}
 use Rattle.cares.specs.Cares.{Covers}
 use Rattle.cares.specs.declared.Cares.{Cares}
 use Rattle.certify.specs.Below.{Code, Branch, Memory, Thread}
@@ -31,11 +32,6 @@ same-or-not true false = inr refl
 same-or-not false true = inr refl
 same-or-not false false = inl refl
 
--- a branch moves on, whichever way it goes
-moves-on : (t : Bool) (n : ℕ) → 0 < branchBy t n
-moves-on true n = omega arith
-moves-on false n = omega arith
-
 module _ (c : Code) (s y : Thread) (steps : List Step) (count o : ℕ) (f : Forked c s steps count y o) where
   -- both ways lead further, so the search ends
   fork-low : CodeOk c → s .position < 20
@@ -50,7 +46,7 @@ module _ (c : Code) (s y : Thread) (steps : List Step) (count o : ℕ) (f : Fork
       let h = leads-further (walked-leads (f .walked)) in
       let low = fork-low ok in
       let e = ap (λ (v : Thread). v .position) (f .after) in
-      let g = moves-on (eqb (valueOf (f .before) (f .a)) (valueOf (f .before) (f .b))) (f .over) in
+      let g = branch-moves (eqb (valueOf (f .before) (f .a)) (valueOf (f .before) (f .b))) (f .over) in
       omega arith
 
   pub fork-other : CodeOk c → 5 * (20 - o) + 4 < 5 * (20 - s .position) + 3
@@ -58,7 +54,7 @@ module _ (c : Code) (s y : Thread) (steps : List Step) (count o : ℕ) (f : Fork
       let h = leads-further (walked-leads (f .walked)) in
       let low = fork-low ok in
       let e = f .other-way in
-      let g = moves-on (not (eqb (valueOf (f .before) (f .a)) (valueOf (f .before) (f .b)))) (f .over) in
+      let g = branch-moves (not (eqb (valueOf (f .before) (f .a)) (valueOf (f .before) (f .b)))) (f .over) in
       omega arith
 
   module _ (i : ℕ) (m : Memory) (lead : Leads c s y) (q : Sought) (r : Reached) (this : Found (q .from) (q .met) (λ v j. Meets c i m v (q .hole) j) y r)

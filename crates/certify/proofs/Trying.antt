@@ -2,7 +2,6 @@
 -- Assumes nothing.
 use mathlib.Core.Path.{_≡_, refl, sym, ap, subst, _∙_}
 use mathlib.Core.Bool.{Bool, false, not, _&&_}
-use mathlib.Core.List.{List}
 use Prim.Native.Nat.{ℕ, zero, suc, max, _+_, _-_, _^_, _≤_, _<_}
 use native.Mathlib.Decide.{decLt}
 use native.Mathlib.Omega.{arith}
@@ -18,8 +17,6 @@ use Rattle.machine.proofs.Effects.{loadLocation, loadPreView, Effect, computed,
 use Rattle.certify.specs.Below.{Code, Operand, ComputeMode, LoadMode, StoreMode, FenceMode, Instr, Compute, Load, Store, Branch, Fence, Message, Memory, Thread}
 use Rattle.times.specs.Times.{After}
 use Rattle.certify.specs.Answers.{Ready, Trying, Earliest, Stands, NextKept, NextMessage, Following}
-use Rattle.certify.specs.Straight.{atPosition}
-use Rattle.certify.specs.Vacant.{cohering}
 use Rattle.certify.proofs.Fit.{own-effect, own-leaves}
 
 -- ---- promises of a location and a value, one by one
@@ -127,11 +124,8 @@ ready-after {c} {m} {s} {t} w (stored p a b) = record { code-ok = w .code-ok; ro
 ready-after w (branched e) = record { code-ok = w .code-ok; room = w .room; promises-in = w .promises-in }
 ready-after w (fenced e) = record { code-ok = w .code-ok; room = w .room; promises-in = w .promises-in }
 
-pub ready-lowered : {c : Code} {m : Memory} {y z : Thread} {xs : List ℕ} → Ready c m y → z ≡ cohering y xs → Ready c m z
-ready-lowered {c} {m} w e = subst (Ready c m) (sym e) (record { code-ok = w .code-ok; room = w .room; promises-in = w .promises-in })
-
-pub ready-at : {c : Code} {m : Memory} {y z : Thread} {n : ℕ} → Ready c m y → z ≡ atPosition y n → Ready c m z
-ready-at {c} {m} w e = subst (Ready c m) (sym e) (record { code-ok = w .code-ok; room = w .room; promises-in = w .promises-in })
+pub ready-as : {c : Code} {m : Memory} {y z : Thread} → Ready c m y → z .promises ≡ y .promises → Ready c m z
+ready-as {m = m} w e = record { code-ok = w .code-ok; room = w .room; promises-in = subst (λ (p : ℕ). p < 2 ^ m .count) (sym e) (w .promises-in) }
 
 pub ready-own : {c : Code} {m : Memory} {s : Thread} (i : ℕ) (k : StoreMode) (a d : Operand) (s' : Thread) → Ready c m s → m .count < 16 → ownStore k a d m i s ≡ next s'
     → Ready c (append m (storeMessage i a d s)) s'

@@ -5,6 +5,7 @@ mod idle;
 mod places;
 pub mod reach;
 mod straight;
+mod tried;
 pub mod vain;
 mod window;
 

@@ -1,16 +1,12 @@
 // What the runs of a thread alone come to: one search of them, times ascending, for all that asks; and what a failure rests on.
 ghost use mathlib.Core.Path.{_≡_};
 ghost use mathlib.Core.Bool.{true, false};
-ghost use Prim.Native.Nat.{_+_, _≤_, _<_};
-ghost use lib.Count.{ones};
-ghost use lib.Dec.{ltb};
-ghost use lib.ListN.{replicate};
-ghost use Rattle.source.specs.Counts.{storesFrom};
+ghost use Prim.Native.Nat.{_≤_, _<_};
 ghost use Rattle.cares.specs.Cares.{Covers};
 ghost use Rattle.certify.specs.Answers.{Ready, Trying};
 ghost use Rattle.certify.specs.Asks.{Stores};
 ghost use Rattle.certify.specs.Straight.{Forked, Walked, atPosition};
-ghost use Rattle.certify.specs.Sought.{fill, Meets, Owns, Emptied, Twice, Found, Unkept, Filled, Keeps, Appends, Hopeless, Knows, Went, Noted};
+ghost use Rattle.certify.specs.Sought.{fill, Meets, Owns, Emptied, Twice, Found, Unkept, Filled, Keeps, Appends, Knows, Went};
 use crate::Met;
 use crate::Sought;
 use crate::asks::asks;
@@ -21,17 +17,18 @@ use crate::straight::Walk;
 use crate::straight::before_straight;
 use crate::straight::halts;
 use crate::straight::straight;
-use crate::vain::in_vain;
+use crate::tried::appends;
+use crate::tried::hopeless;
+use crate::tried::noted;
+use crate::tried::untried;
 use crate::window::earliest;
 use crate::window::following;
 use cares::Cares;
 use cares::barring;
-use live::fewer_stores;
 use machine::Memory;
 use machine::Message;
 use machine::RuleAnswer;
 use machine::Thread;
-use machine::merge::smaller;
 use machine::promises::has;
 use machine::promises::is_empty;
 use rules::execute;
@@ -56,14 +53,6 @@ pub struct Tried {
     pub cares: Cares,
     pub counted: [u32; 17],
     pub apart: bool,
-}
-
-// More promises are outstanding than stores are left at position n and after it.
-fn crowded(c: Code, n: u8, s: Thread) -> bool
-    requires { ⌜ c .count ≤ 16 ⌝ }
-    ensures { λ r. ⌜ r ≡ ltb (storesFrom c n) (ones (s .promises)) ⌝ }
-{
-    fewer_stores(c, n, u16::count_ones(s.promises))
 }
 
 // An empty promise set is sought, and here it is.
@@ -94,92 +83,6 @@ fn fill(mut m: Memory, h: u8, w: Message) -> Memory
 {
     m.messages[(h - 1) as usize] = w;
     m
-}
-
-// Nothing can come of a try at time t: an earlier one has failed, and what it left differs in nothing that counted; or stores are too few for
-// all promises, which is asked after the first try.
-fn hopeless(c: Code, m: Memory, s: Thread, x: Instr, t: u8, p: Tried) -> bool
-    requires { ⌜ (c .count ≤ 16) × ((m .count ≤ 16) × (t ≤ 16)) ⌝ }
-    ensures { λ r. ⌜ (r ≡ true → Hopeless c m s x (p .counted) t) ⌝ }
-{
-    if p.tries == 0 {
-        return false;
-    }
-    let counted = p.counted;
-    if in_vain(m, s, x, counted, t) {
-        return true;
-    }
-    if p.tries == 1 {
-        return crowded(c, s.position, s);
-    }
-    false
-}
-
-// Before the first try of an instruction: what is known otherwise.
-fn untried(known: Reached) -> Tried
-    ensures { λ r. ⌜ r ≡ record { met = known .met; tries = 0; cares = known .cares; counted = replicate 17 3; apart = true } ⌝ }
-{
-    let met = known.met;
-    let cares = known.cares;
-    Tried {
-        met: met,
-        tries: 0,
-        cares: cares,
-        counted: [3; 17],
-        apart: true,
-    }
-}
-
-// What a try at time t, which was apart or not, adds to what is known.
-fn noted(x: Instr, t: u8, p: Tried, sub: Reached, apart: bool) -> Tried
-    requires { ⌜ t ≤ 16 ⌝ }
-    ensures { λ r. ⌜ Noted x t p sub apart r ⌝ }
-{
-    let before = p.cares;
-    let now = sub.cares;
-    let met = sub.met;
-    let mut counted = p.counted;
-    match x {
-        Instr::Load(_, r, _, _) => {
-            counted[t as usize] = now.of_register(r);
-            Tried {
-                met: met,
-                tries: smaller(p.tries, 1) + 1,
-                cares: now.forgetting(r).and(before),
-                counted: counted,
-                apart: p.apart & apart,
-            }
-        }
-        Instr::Store(_, _, _) => Tried {
-            met: met,
-            tries: smaller(p.tries, 1) + 1,
-            cares: now.and(before),
-            counted: counted,
-            apart: p.apart,
-        },
-        Instr::Compute(_, _, _, _) => p,
-        Instr::Branch(_, _, _) => p,
-        Instr::Fence(_) => p,
-    }
-}
-
-// A store can append its own message, and stores enough are left then.
-fn appends(c: Code, m: Memory, s: Thread, x: Instr) -> bool
-    requires { ⌜ (c .count ≤ 16) × (s .position + 1 < 256) ⌝ }
-    ensures { λ r. ⌜ Appends c m s x r ⌝ }
-{
-    match x {
-        Instr::Store(_, _, _) => {
-            if 16 <= m.count {
-                return false;
-            }
-            !crowded(c, s.position + 1, s)
-        }
-        Instr::Load(_, _, _, _) => false,
-        Instr::Compute(_, _, _, _) => false,
-        Instr::Branch(_, _, _) => false,
-        Instr::Fence(_) => false,
-    }
 }
 
 // The thread at position n.

@@ -87,7 +87,8 @@ effect (Fence k) m t s s' e =
     let q = test-passed (eqb t 0) 26 _ s' e in
     subst (Effect m t s (Fence k)) (next-same (q .1)) (fenced (eqb→eq t 0 (q .0)))
 
-branch-moves : (b : Bool) (n : ℕ) → 0 < branchBy b n
+-- a branch moves on, whichever way it goes
+pub branch-moves : (b : Bool) (n : ℕ) → 0 < branchBy b n
 branch-moves true n = omega arith
 branch-moves false n = omega arith
 

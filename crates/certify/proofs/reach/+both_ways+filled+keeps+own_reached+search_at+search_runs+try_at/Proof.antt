@@ -16,7 +16,7 @@ use Rattle.cares.specs.Cares.{Covers}
 use Rattle.certify.specs.Below.{Thread}
 use Rattle.certify.specs.Sought.{Better, same, Meets, Missed}
 use Rattle.certify.specs.Straight.{here}
-use Rattle.certify.proofs.Trying.{ready-after, ready-lowered, ready-at, ready-own, reach-byte}
+use Rattle.certify.proofs.Trying.{ready-after, ready-as, ready-own, reach-byte}
 use Rattle.certify.proofs.Plain.{leads-ready, walked-leads, walked-further}
 use Rattle.certify.proofs.Numbers.{better-on}
 use Rattle.certify.proofs.Finding.{covers-self, covers-on}
@@ -63,14 +63,14 @@ use Rattle.certify.proofs.asks.asks.Reads as asks-reads
 use Rattle.certify.proofs.idle.idle.Reads as idle-reads
 use Rattle.certify.proofs.idle.lowered.Reads as lowered-reads
 use Rattle.certify.proofs.own_message.Reads as own-message-reads
-use Rattle.certify.proofs.reach.appends.Reads as appends-reads
+use Rattle.certify.proofs.tried.appends.Reads as appends-reads
 use Rattle.certify.proofs.reach.at_position.Reads as at-position-reads
 use Rattle.certify.proofs.reach.emptied.Reads as emptied-reads
 use Rattle.certify.proofs.reach.fill.Reads as fill-reads
-use Rattle.certify.proofs.reach.hopeless.Reads as hopeless-reads
+use Rattle.certify.proofs.tried.hopeless.Reads as hopeless-reads
 use Rattle.certify.proofs.reach.kept.Reads as kept-reads
-use Rattle.certify.proofs.reach.noted.Reads as noted-reads
-use Rattle.certify.proofs.reach.untried.Reads as untried-reads
+use Rattle.certify.proofs.tried.noted.Reads as noted-reads
+use Rattle.certify.proofs.tried.untried.Reads as untried-reads
 use Rattle.certify.proofs.straight.Walk.held.Reads as held-reads
 use Rattle.certify.proofs.straight.before_straight.Reads as before-straight-reads
 use Rattle.certify.proofs.straight.halts.Reads as halts-reads
@@ -209,7 +209,7 @@ both-ways-after-requires : (t : ℕ) → both-ways-lts.Need-after-requires (both
 both-ways-after-requires t c κs = search needs
 
 both-ways-search-runs-requires-2 : (t : ℕ) → both-ways-lts.Need-search-runs-requires-2 (both-ways-claims t) (both-ways-at t) both-ways.Post
-both-ways-search-runs-requires-2 t c κs = let f = c .before .before .before .before .before .before .before .before .before .before .pre .1 .1 .0 in let w = c .before .before .before .before .before .before .before .before .before .before .pre .1 .0 in let l = fork-other _ _ _ _ _ _ f (w .code-ok) in let at = ap (λ (v : Thread). v .position) (c .before .at-position .ensures) in (omega (arith, c .before .before .before .before .before .before .before .before .before .before .pre .0), ready-at (leads-ready (walked-leads (c .before .before .before .before .before .before .before .before .before .before .pre .1 .1 .1 .0)) w) (c .before .at-position .ensures))
+both-ways-search-runs-requires-2 t c κs = let f = c .before .before .before .before .before .before .before .before .before .before .pre .1 .1 .0 in let w = c .before .before .before .before .before .before .before .before .before .before .pre .1 .0 in let l = fork-other _ _ _ _ _ _ f (w .code-ok) in let at = ap (λ (v : Thread). v .position) (c .before .at-position .ensures) in (omega (arith, c .before .before .before .before .before .before .before .before .before .before .pre .0), ready-as (leads-ready (walked-leads (c .before .before .before .before .before .before .before .before .before .before .pre .1 .1 .1 .0)) w) (ap (λ (v : Thread). v .promises) (c .before .at-position .ensures)))
 
 both-ways-is-requires : (t : ℕ) → both-ways-lts.Need-is-requires (both-ways-claims t) (both-ways-at t) both-ways.Post
 both-ways-is-requires t c κs = search needs
@@ -554,7 +554,7 @@ try-at-lowered-requires : (t : ℕ) → try-at-lts.Need-lowered-requires (try-at
 try-at-lowered-requires t c κs = search needs
 
 try-at-search-runs-requires : (t : ℕ) → try-at-lts.Need-search-runs-requires (try-at-claims t) (try-at-at t) try-at.Post
-try-at-search-runs-requires t c κs = let d = ruled-done _ _ _ (c .before .before .before .before .before .before .before .before .execute .ensures) (c .before .before .before .before .before .before .enum-told .given .1) in let f = further-by _ _ _ _ (c .before .before .before .before .before .before .before .before .before .before .before .pre .1 .0) _ _ d in let at = ap (λ (v : Thread). v .position) (c .lowered .ensures) in (omega (arith, c .before .before .before .before .before .before .before .before .before .before .before .pre .0), ready-lowered (ready-after (c .before .before .before .before .before .before .before .before .before .before .before .pre .1 .0 .ready) (effect _ _ _ _ _ d)) (c .lowered .ensures))
+try-at-search-runs-requires t c κs = let d = ruled-done _ _ _ (c .before .before .before .before .before .before .before .before .execute .ensures) (c .before .before .before .before .before .before .enum-told .given .1) in let f = further-by _ _ _ _ (c .before .before .before .before .before .before .before .before .before .before .before .pre .1 .0) _ _ d in let at = ap (λ (v : Thread). v .position) (c .lowered .ensures) in (omega (arith, c .before .before .before .before .before .before .before .before .before .before .before .pre .0), ready-as (ready-after (c .before .before .before .before .before .before .before .before .before .before .before .pre .1 .0 .ready) (effect _ _ _ _ _ d)) (ap (λ (v : Thread). v .promises) (c .lowered .ensures)))
 
 try-at-noted-requires : (t : ℕ) → try-at-lts.Need-noted-requires (try-at-claims t) (try-at-at t) try-at.Post
 try-at-noted-requires t c κs = c .before .before .before .before .before .before .before .before .before .before .before .before .pre .1 .1 .0

@@ -1,11 +1,11 @@
--- `certify::reach::noted` meets its contract: one case for each instruction.
+-- `certify::tried::noted` meets its contract: one case for each instruction.
 -- Assumes nothing.
 use mathlib.Core.Path.{ap}
 use borrow.Author.Needs.{needs}
 use Rattle.certify.proofs.Asking.{is-tried}
 use Rattle.certify.proofs.Tries.{noted-load, noted-store, noted-other}
-use Rattle.certify.proofs.reach.noted.Statement.{statement}
-use Rattle.certify.proofs.reach.noted.Tie as tie
+use Rattle.certify.proofs.tried.noted.Statement.{statement}
+use Rattle.certify.proofs.tried.noted.Tie as tie
 
 enum-known-x : tie.Need-enum-known-x
 enum-known-x c = search needs

@@ -1,10 +1,10 @@
--- `certify::reach::appends` meets its contract: one case for each instruction.
+-- `certify::tried::appends` meets its contract: one case for each instruction.
 -- Assumes nothing.
 use mathlib.Core.Path.{ap}
 use borrow.Author.Needs.{needs}
 use Rattle.certify.proofs.Placing.{stores, appends-full, appends-fit, appends-not}
-use Rattle.certify.proofs.reach.appends.Statement.{statement}
-use Rattle.certify.proofs.reach.appends.Tie as tie
+use Rattle.certify.proofs.tried.appends.Statement.{statement}
+use Rattle.certify.proofs.tried.appends.Tie as tie
 
 enum-told : tie.Need-enum-told
 enum-told c = search needs

@@ -1,11 +1,11 @@
--- `certify::reach::hopeless` meets its contract.
+-- `certify::tried::hopeless` meets its contract.
 -- Assumes nothing.
 use mathlib.Core.Path.{sym, subst}
 use mathlib.Core.Logic.{inl, inr}
 use lib.Dec.{T}
 use Rattle.certify.proofs.Stores.{crowds}
-use Rattle.certify.proofs.reach.hopeless.Statement.{statement}
-use Rattle.certify.proofs.reach.hopeless.Tie as tie
+use Rattle.certify.proofs.tried.hopeless.Statement.{statement}
+use Rattle.certify.proofs.tried.hopeless.Tie as tie
 
 returns : tie.Need-returns
 returns c = λ e. absurd (subst T (sym e) tt)
