@@ -10,6 +10,7 @@ pub mod Under
 pub mod Executes
 pub mod Alike
 pub mod Resting
+pub mod Unread
 pub mod Numbers
 pub mod Plain
 pub mod Backwards

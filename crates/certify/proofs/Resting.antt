@@ -30,7 +30,7 @@ pub promise-rests : {K : List ℕ} {s s' : Thread} (m : Memory) → Rests K s s'
 promise-rests m h = record { under = promise-under m (h .under); agreeing = h .agreeing }
 
 -- the registers, where r is written
-set-agreeing : (K : List ℕ) (r : ℕ) (s s' : Thread) (x x' : Register) → Under s s' → AgreeingBut K r s s' → Agrees (careOf K r) (x .value) (x' .value) → (j : ℕ)
+pub set-agreeing : (K : List ℕ) (r : ℕ) (s s' : Thread) (x x' : Register) → Under s s' → AgreeingBut K r s s' → Agrees (careOf K r) (x .value) (x' .value) → (j : ℕ)
     → Agrees (careOf K j) ((getD (set (s .registers) r x) j freshRegister) .value) ((getD (set (s' .registers) r x') j freshRegister) .value)
 set-agreeing K r s s' x x' h others written =
     set-both (λ (j : ℕ) (y y' : Register). Agrees (careOf K j) (y .value) (y' .value)) freshRegister x x' (s .registers) (s' .registers) r (h .registers-long) others (same refl) written

@@ -3,7 +3,7 @@
 use mathlib.Core.Path.{_≡_, refl, sym, ap, ap₂, _∙_, subst}
 use mathlib.Core.List.{List}
 use Prim.Native.Nat.{ℕ, max, _+_, _≤_, _<_}
-use native.Mathlib.Nat.{le-refl, le-trans, lt-of-le-of-lt}
+use native.Mathlib.Nat.{le-refl, le-trans, le-max-left, lt-of-le-of-lt}
 use native.Mathlib.Omega.{arith}
 use lib.Dec.{T, eqb}
 use lib.ListN.{length, getD, set, length-set}
@@ -126,6 +126,10 @@ module _ (s s' : Thread) (h : Under s s') where
     -- a read at time 0 that has no view of its own gives a post-view no larger than any other's
     pub post-unseen : (k : LoadMode) → readView s (loadLocation s a b) 0 ≡ 0 → loadPostView k s a b 0 ≤ loadPostView k s' a b 0
     post-unseen k unseen = max-low _ _ _ _ (pre-view-low k) (subst (λ (v : ℕ). v ≤ readView s' (loadLocation s' a b) 0) (sym unseen) (omega arith))
+
+    -- the pre-view is no larger than the post-view of any read
+    pub post-any : (k : LoadMode) (t : ℕ) → loadPreView k s a b ≤ loadPostView k s' a b t
+    post-any k t = le-trans (pre-view-low k) (le-max-left (loadPreView k s' a b) (readView s' (loadLocation s' a b) t))
 
     -- what two loads leave, the one with a post-view no larger, and with coherence views no larger
     loaded-under : (k : LoadMode) (r : ℕ) (m : Memory) (t t' l l' post post' : ℕ) (xs xs' : List ℕ) → post ≤ post' → length xs ≡ length xs' → ((j : ℕ) → viewAt xs j ≤ viewAt xs' j)

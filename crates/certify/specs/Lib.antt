@@ -5,6 +5,7 @@ pub mod Answers
 pub mod Under
 pub mod Straight
 pub mod Vacant
+pub mod Blind
 pub mod Asks
 pub mod Tries
 pub mod Sought

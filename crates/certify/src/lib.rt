@@ -1,5 +1,6 @@
 // Certification of one thread: alone on the memory, by executing instructions, it can reach an empty promise set.
 mod asks;
+mod blind;
 mod checked;
 mod idle;
 mod places;

@@ -1,4 +1,6 @@
-// What lies ahead in a thread's code: whether stores enough are left.
+// What lies ahead in a thread's code: whether stores enough are left, and which loads come into none.
+pub mod steering;
+
 ghost use mathlib.Core.Path.{_≡_};
 ghost use Prim.Native.Nat.{_≤_};
 ghost use lib.Dec.{ltb};

@@ -1,10 +1,10 @@
 -- The cycle of `certify::reach::search_runs` meets its contracts: each instruction moves the position on.
 -- Assumes nothing.
-use mathlib.Core.Path.{_≡_, refl, ap, _∙_}
+use mathlib.Core.Path.{_≡_, refl, sym, ap, subst, _∙_}
 use Prim.Native.Nat.{_+_, _-_, _*_, _≤_}
 use native.Mathlib.Nat.{mod-lt}
 use native.Mathlib.Omega.{arith}
-use lib.Dec.{lit<}
+use lib.Dec.{T, lit<}
 use lib.ListN.{length}
 use borrow.Author.Tests.{not-false}
 use borrow.Author.Needs.{needs}
@@ -23,33 +23,41 @@ use Rattle.certify.proofs.Finding.{covers-self, covers-on}
 use Rattle.certify.proofs.Filling.{fill-no-hole, fill-none, fill-unsought, fill-here, fill-fails, alone-kept, alone-lost, hole-time, trying-filled, keeps-refused, keeps-done}
 use Rattle.certify.proofs.Missing.{knows-none, missed-none, missed-on, went-refused, went-hopeless, went-found, went-on, went-apart}
 use Rattle.certify.proofs.Owning.{owns-none, owns-untried, owns-stuck, owns-goes}
+use Rattle.certify.proofs.Unread.{blind-found}
 use Rattle.certify.proofs.Forking.{fork-this, fork-other, both-found}
 use Rattle.certify.proofs.Reaching.{reach-end, reach-ended, fills-meets, tried-meets, owns-meets, reach-all, straight-kept, straight-ended, straight-found, further-by, further-own}
 use Prim.Native.Nat.{ℕ, _<_}
 use borrow.Fn.Kinds.{In}
 use borrow.Fn.PlainCycle.{Measures, is, falls, and}
+use Rattle.certify.proofs.reach.blind.Reads as blind
+use Rattle.certify.proofs.reach.blind.Kinds as blind-kinds
+use Rattle.certify.proofs.reach.+blind+both_ways+filled+halted+keeps+own_reached+search_at+search_runs+try_at.Lts-blind as blind-lts
 use Rattle.certify.proofs.reach.both_ways.Reads as both-ways
 use Rattle.certify.proofs.reach.both_ways.Kinds as both-ways-kinds
-use Rattle.certify.proofs.reach.+both_ways+filled+keeps+own_reached+search_at+search_runs+try_at.Lts-both_ways as both-ways-lts
+use Rattle.certify.proofs.reach.+blind+both_ways+filled+halted+keeps+own_reached+search_at+search_runs+try_at.Lts-both_ways as both-ways-lts
 use Rattle.certify.proofs.reach.filled.Reads as filled
 use Rattle.certify.proofs.reach.filled.Kinds as filled-kinds
-use Rattle.certify.proofs.reach.+both_ways+filled+keeps+own_reached+search_at+search_runs+try_at.Lts-filled as filled-lts
+use Rattle.certify.proofs.reach.+blind+both_ways+filled+halted+keeps+own_reached+search_at+search_runs+try_at.Lts-filled as filled-lts
+use Rattle.certify.proofs.reach.halted.Reads as halted
+use Rattle.certify.proofs.reach.halted.Kinds as halted-kinds
+use Rattle.certify.proofs.reach.+blind+both_ways+filled+halted+keeps+own_reached+search_at+search_runs+try_at.Lts-halted as halted-lts
 use Rattle.certify.proofs.reach.keeps.Reads as keeps
 use Rattle.certify.proofs.reach.keeps.Kinds as keeps-kinds
-use Rattle.certify.proofs.reach.+both_ways+filled+keeps+own_reached+search_at+search_runs+try_at.Lts-keeps as keeps-lts
+use Rattle.certify.proofs.reach.+blind+both_ways+filled+halted+keeps+own_reached+search_at+search_runs+try_at.Lts-keeps as keeps-lts
 use Rattle.certify.proofs.reach.own_reached.Reads as own-reached
 use Rattle.certify.proofs.reach.own_reached.Kinds as own-reached-kinds
-use Rattle.certify.proofs.reach.+both_ways+filled+keeps+own_reached+search_at+search_runs+try_at.Lts-own_reached as own-reached-lts
+use Rattle.certify.proofs.reach.+blind+both_ways+filled+halted+keeps+own_reached+search_at+search_runs+try_at.Lts-own_reached as own-reached-lts
 use Rattle.certify.proofs.reach.search_at.Reads as search-at
 use Rattle.certify.proofs.reach.search_at.Kinds as search-at-kinds
-use Rattle.certify.proofs.reach.+both_ways+filled+keeps+own_reached+search_at+search_runs+try_at.Lts-search_at as search-at-lts
+use Rattle.certify.proofs.reach.+blind+both_ways+filled+halted+keeps+own_reached+search_at+search_runs+try_at.Lts-search_at as search-at-lts
 use Rattle.certify.proofs.reach.search_runs.Reads as search-runs
 use Rattle.certify.proofs.reach.search_runs.Kinds as search-runs-kinds
-use Rattle.certify.proofs.reach.+both_ways+filled+keeps+own_reached+search_at+search_runs+try_at.Lts-search_runs as search-runs-lts
+use Rattle.certify.proofs.reach.+blind+both_ways+filled+halted+keeps+own_reached+search_at+search_runs+try_at.Lts-search_runs as search-runs-lts
 use Rattle.certify.proofs.reach.try_at.Reads as try-at
 use Rattle.certify.proofs.reach.try_at.Kinds as try-at-kinds
-use Rattle.certify.proofs.reach.+both_ways+filled+keeps+own_reached+search_at+search_runs+try_at.Lts-try_at as try-at-lts
+use Rattle.certify.proofs.reach.+blind+both_ways+filled+halted+keeps+own_reached+search_at+search_runs+try_at.Lts-try_at as try-at-lts
 use Rattle.cares.proofs.Cares.and.Reads as and-reads
+use Rattle.cares.proofs.Cares.forgetting.Reads as forgetting-reads
 use Rattle.cares.proofs.Cares.noting.Reads as noting-reads
 use Rattle.cares.proofs.Cares.of_register.Reads as of-register-reads
 use Rattle.cares.proofs.barring.Reads as barring-reads
@@ -60,6 +68,7 @@ use Rattle.certify.proofs.Sought.after.Reads as after-reads
 use Rattle.certify.proofs.Sought.certified.Reads as certified-reads
 use Rattle.certify.proofs.Sought.seeks.Reads as seeks-reads
 use Rattle.certify.proofs.asks.asks.Reads as asks-reads
+use Rattle.certify.proofs.blind.unread.Reads as unread-reads
 use Rattle.certify.proofs.idle.idle.Reads as idle-reads
 use Rattle.certify.proofs.idle.lowered.Reads as lowered-reads
 use Rattle.certify.proofs.own_message.Reads as own-message-reads
@@ -77,6 +86,7 @@ use Rattle.certify.proofs.straight.halts.Reads as halts-reads
 use Rattle.certify.proofs.straight.straight.Reads as straight-reads
 use Rattle.certify.proofs.window.earliest.Reads as earliest-reads
 use Rattle.certify.proofs.window.following.Reads as following-reads
+use Rattle.live.proofs.steering.steers.Reads as steers-reads
 use Rattle.machine.proofs.Memory.append.Reads as append-reads
 use Rattle.machine.proofs.promises.has.Reads as has-reads
 use Rattle.rules.proofs.execute.Reads as execute-reads
@@ -84,33 +94,45 @@ use Rattle.rules.proofs.operands.view_of.Reads as view-of-reads
 use Rattle.rules.proofs.own_store.Reads as own-store-reads
 use Rattle.source.proofs.Code.instr_at.Reads as instr-at-reads
 use Rattle.stores.proofs.below_time.Reads as below-time-reads
-use Rattle.certify.proofs.reach.+both_ways+filled+keeps+own_reached+search_at+search_runs+try_at.{
+use Rattle.certify.proofs.reach.+blind+both_ways+filled+halted+keeps+own_reached+search_at+search_runs+try_at.{
   statement,
 }
-use Rattle.certify.proofs.reach.+both_ways+filled+keeps+own_reached+search_at+search_runs+try_at.Tie.{
+use Rattle.certify.proofs.reach.+blind+both_ways+filled+halted+keeps+own_reached+search_at+search_runs+try_at.Tie.{
   close,
 }
 
+abbrev μ-blind : Measures 0 blind-kinds.ps ℕ
+μ-blind κs a = 6 * (20 - a .1 .1 .1 .0 .position) + 3
+
 abbrev μ-both-ways : Measures 0 both-ways-kinds.ps ℕ
-μ-both-ways κs a = 5 * (20 - a .1 .1 .1 .0 .position) + 3
+μ-both-ways κs a = 6 * (20 - a .1 .1 .1 .0 .position) + 3
 
 abbrev μ-filled : Measures 0 filled-kinds.ps ℕ
-μ-filled κs a = 5 * (20 - a .1 .1 .1 .0 .position) + 2
+μ-filled κs a = 6 * (20 - a .1 .1 .1 .0 .position) + 2
+
+abbrev μ-halted : Measures 0 halted-kinds.ps ℕ
+μ-halted κs a = 6 * (20 - a .1 .1 .1 .0 .position) + 4
 
 abbrev μ-keeps : Measures 0 keeps-kinds.ps ℕ
-μ-keeps κs a = 5 * (20 - a .1 .1 .1 .0 .position) + 1
+μ-keeps κs a = 6 * (20 - a .1 .1 .1 .0 .position) + 1
 
 abbrev μ-own-reached : Measures 0 own-reached-kinds.ps ℕ
-μ-own-reached κs a = 5 * (20 - a .1 .1 .1 .0 .position) + 1
+μ-own-reached κs a = 6 * (20 - a .1 .1 .1 .0 .position) + 1
 
 abbrev μ-search-at : Measures 0 search-at-kinds.ps ℕ
-μ-search-at κs a = 5 * (20 - a .1 .1 .1 .0 .position) + 3
+μ-search-at κs a = 6 * (20 - a .1 .1 .1 .0 .position) + 3
 
 abbrev μ-search-runs : Measures 0 search-runs-kinds.ps ℕ
-μ-search-runs κs a = 5 * (20 - a .1 .1 .1 .0 .position) + 4
+μ-search-runs κs a = 6 * (20 - a .1 .1 .1 .0 .position) + 5
 
 abbrev μ-try-at : Measures 0 try-at-kinds.ps ℕ
-μ-try-at κs a = 5 * (20 - a .1 .1 .1 .0 .position) + 2
+μ-try-at κs a = 6 * (20 - a .1 .1 .1 .0 .position) + 2
+
+abbrev blind-at : ℕ → In 0 blind-kinds.ps
+blind-at t = and 0 blind-kinds.ps (is 0 blind-kinds.ps μ-blind t) blind.Pre
+
+abbrev blind-below : ℕ → In 0 blind-kinds.ps
+blind-below t = and 0 blind-kinds.ps (falls 0 blind-kinds.ps _<_ μ-blind t) blind.Pre
 
 abbrev both-ways-at : ℕ → In 0 both-ways-kinds.ps
 both-ways-at t = and 0 both-ways-kinds.ps (is 0 both-ways-kinds.ps μ-both-ways t) both-ways.Pre
@@ -124,6 +146,12 @@ filled-at t = and 0 filled-kinds.ps (is 0 filled-kinds.ps μ-filled t) filled.Pr
 
 abbrev filled-below : ℕ → In 0 filled-kinds.ps
 filled-below t = and 0 filled-kinds.ps (falls 0 filled-kinds.ps _<_ μ-filled t) filled.Pre
+
+abbrev halted-at : ℕ → In 0 halted-kinds.ps
+halted-at t = and 0 halted-kinds.ps (is 0 halted-kinds.ps μ-halted t) halted.Pre
+
+abbrev halted-below : ℕ → In 0 halted-kinds.ps
+halted-below t = and 0 halted-kinds.ps (falls 0 halted-kinds.ps _<_ μ-halted t) halted.Pre
 
 abbrev keeps-at : ℕ → In 0 keeps-kinds.ps
 keeps-at t = and 0 keeps-kinds.ps (is 0 keeps-kinds.ps μ-keeps t) keeps.Pre
@@ -160,11 +188,17 @@ try-at-at t = and 0 try-at-kinds.ps (is 0 try-at-kinds.ps μ-try-at t) try-at.Pr
 abbrev try-at-below : ℕ → In 0 try-at-kinds.ps
 try-at-below t = and 0 try-at-kinds.ps (falls 0 try-at-kinds.ps _<_ μ-try-at t) try-at.Pre
 
+abbrev blind-claims : ℕ → blind-lts.Claims
+blind-claims t = (steers-reads.Asked, steers-reads.Learnt, unread-reads.Asked, unread-reads.Learnt, search-runs-below t, search-runs.Post, is-reads.Asked, is-reads.Learnt, of-register-reads.Asked, of-register-reads.Learnt, forgetting-reads.Asked, forgetting-reads.Learnt)
+
 abbrev both-ways-claims : ℕ → both-ways-lts.Claims
 both-ways-claims t = (search-runs-below t, search-runs.Post, ended-reads.Asked, ended-reads.Learnt, held-reads.Asked, held-reads.Learnt, of-register-reads.Asked, of-register-reads.Learnt, before-straight-reads.Asked, before-straight-reads.Learnt, at-position-reads.Asked, at-position-reads.Learnt, after-reads.Asked, after-reads.Learnt, is-reads.Asked, is-reads.Learnt, and-reads.Asked, and-reads.Learnt)
 
 abbrev filled-claims : ℕ → filled-lts.Claims
 filled-claims t = (has-reads.Asked, has-reads.Learnt, own-message-reads.Asked, own-message-reads.Learnt, seeks-reads.Asked, seeks-reads.Learnt, with-reads.Asked, with-reads.Learnt, view-of-reads.Asked, view-of-reads.Learnt, below-time-reads.Asked, below-time-reads.Learnt, fill-reads.Asked, fill-reads.Learnt, keeps-below t, keeps.Post)
+
+abbrev halted-claims : ℕ → halted-lts.Claims
+halted-claims t = (blind-below t, blind.Post, search-at-below t, search-at.Post)
 
 abbrev keeps-claims : ℕ → keeps-lts.Claims
 keeps-claims t = (execute-reads.Asked, execute-reads.Learnt, certified-reads.Asked, certified-reads.Learnt, search-runs-below t, search-runs.Post)
@@ -176,10 +210,67 @@ abbrev search-at-claims : ℕ → search-at-lts.Claims
 search-at-claims t = (earliest-reads.Asked, earliest-reads.Learnt, filled-below t, filled.Post, untried-reads.Asked, untried-reads.Learnt, try-at-below t, try-at.Post, ended-reads.Asked, ended-reads.Learnt, following-reads.Asked, following-reads.Learnt, appends-reads.Asked, appends-reads.Learnt, after-reads.Asked, after-reads.Learnt, own-reached-below t, own-reached.Post, asks-reads.Asked, asks-reads.Learnt, and-reads.Asked, and-reads.Learnt)
 
 abbrev search-runs-claims : ℕ → search-runs-lts.Claims
-search-runs-claims t = (kept-reads.Asked, kept-reads.Learnt, emptied-reads.Asked, emptied-reads.Learnt, halts-reads.Asked, halts-reads.Learnt, instr-at-reads.Asked, instr-at-reads.Learnt, search-at-below t, search-at.Post, straight-reads.Asked, straight-reads.Learnt, both-ways-below t, both-ways.Post, search-runs-below t, search-runs.Post, ended-reads.Asked, ended-reads.Learnt, before-straight-reads.Asked, before-straight-reads.Learnt)
+search-runs-claims t = (kept-reads.Asked, kept-reads.Learnt, emptied-reads.Asked, emptied-reads.Learnt, halts-reads.Asked, halts-reads.Learnt, instr-at-reads.Asked, instr-at-reads.Learnt, halted-below t, halted.Post, straight-reads.Asked, straight-reads.Learnt, both-ways-below t, both-ways.Post, search-runs-below t, search-runs.Post, ended-reads.Asked, ended-reads.Learnt, before-straight-reads.Asked, before-straight-reads.Learnt)
 
 abbrev try-at-claims : ℕ → try-at-lts.Claims
 try-at-claims t = (hopeless-reads.Asked, hopeless-reads.Learnt, execute-reads.Asked, execute-reads.Learnt, after-reads.Asked, after-reads.Learnt, kept-reads.Asked, kept-reads.Learnt, emptied-reads.Asked, emptied-reads.Learnt, idle-reads.Asked, idle-reads.Learnt, lowered-reads.Asked, lowered-reads.Learnt, search-runs-below t, search-runs.Post, noted-reads.Asked, noted-reads.Learnt)
+
+blind-steers-requires : (t : ℕ) → blind-lts.Need-steers-requires (blind-claims t) (blind-at t) blind.Post
+blind-steers-requires t c κs = let w = c .pre .1 .0 in let l = there _ _ _ (w .is-next) .0 in (w .ready .code-ok .short, let h = w .ready .code-ok .short in omega arith)
+
+blind-returns : (t : ℕ) → blind-lts.Need-returns (blind-claims t) (blind-at t) blind.Post
+blind-returns t c = λ e. absurd (subst T (sym e) tt)
+
+blind-enum-known-x : (t : ℕ) → blind-lts.Need-enum-known-x (blind-claims t) (blind-at t) blind.Post
+blind-enum-known-x t c = search needs
+
+blind-unread-requires : (t : ℕ) → blind-lts.Need-unread-requires (blind-claims t) (blind-at t) blind.Post
+blind-unread-requires t c κs = let w = c .before .before .before .before .before .pre .1 .0 in let h = reach-byte _ _ _ _ w in let q = rw (c .before .x .given .1) at h in omega arith
+
+blind-search-runs-requires : (t : ℕ) → blind-lts.Need-search-runs-requires (blind-claims t) (blind-at t) blind.Post
+blind-search-runs-requires t c κs = let w = c .before .before .before .before .before .before .pre .1 .0 in let at = ap (λ (v : Thread). v .position) (c .unread .ensures) in let l = there _ _ _ (w .is-next) .0 in let h = w .ready .code-ok .short in (omega (arith, c .before .before .before .before .before .before .pre .0), ready-as (w .ready) (ap (λ (v : Thread). v .promises) (c .unread .ensures)))
+
+blind-is-requires : (t : ℕ) → blind-lts.Need-is-requires (blind-claims t) (blind-at t) blind.Post
+blind-is-requires t c κs = search needs
+
+blind-returns-2 : (t : ℕ) → blind-lts.Need-returns-2 (blind-claims t) (blind-at t) blind.Post
+blind-returns-2 t c = λ e. absurd (subst T (sym e) tt)
+
+blind-of-register-requires : (t : ℕ) → blind-lts.Need-of-register-requires (blind-claims t) (blind-at t) blind.Post
+blind-of-register-requires t c κs = search needs
+
+blind-returns-3 : (t : ℕ) → blind-lts.Need-returns-3 (blind-claims t) (blind-at t) blind.Post
+blind-returns-3 t c = λ e. absurd (subst T (sym e) tt)
+
+blind-forgetting-requires : (t : ℕ) → blind-lts.Need-forgetting-requires (blind-claims t) (blind-at t) blind.Post
+blind-forgetting-requires t c κs = search needs
+
+blind-enum-told : (t : ℕ) → blind-lts.Need-enum-told (blind-claims t) (blind-at t) blind.Post
+blind-enum-told t c = search needs
+
+blind-enum-told-2 : (t : ℕ) → blind-lts.Need-enum-told-2 (blind-claims t) (blind-at t) blind.Post
+blind-enum-told-2 t c = search needs
+
+blind-enum-told-3 : (t : ℕ) → blind-lts.Need-enum-told-3 (blind-claims t) (blind-at t) blind.Post
+blind-enum-told-3 t c = search needs
+
+blind-enum-told-4 : (t : ℕ) → blind-lts.Need-enum-told-4 (blind-claims t) (blind-at t) blind.Post
+blind-enum-told-4 t c = search needs
+
+blind-returns-4 : (t : ℕ) → blind-lts.Need-returns-4 (blind-claims t) (blind-at t) blind.Post
+blind-returns-4 t c = λ e. blind-found _ _ _ _ _ (c .before .before .before .before .before .before .before .before .before .before .before .before .before .before .pre .1 .0 .is-next) (c .before .before .before .before .before .before .before .before .before .before .before .before .before .before .args .q) (c .before .before .before .before .before .before .before .before .before .before .before .before .before .before .pre .1 .1) _ _ _ _ (c .before .before .before .before .before .before .before .before .before .before .x .given .1) _ (c .before .before .before .before .before .before .before .before .unread .ensures) _ (c .before .before .before .before .before .before .before .search-runs .ensures) (c .before .before .before .before .is .ensures (not-false _ (c .before .before .before .if2 .left))) (sym (c .before .before .of-register .ensures) ∙ c .before .if3 .left) _ (λ v w. c .forgetting .ensures v w)
+
+blind-returns-5 : (t : ℕ) → blind-lts.Need-returns-5 (blind-claims t) (blind-at t) blind.Post
+blind-returns-5 t c = λ e. absurd (subst T (sym e) tt)
+
+blind-returns-6 : (t : ℕ) → blind-lts.Need-returns-6 (blind-claims t) (blind-at t) blind.Post
+blind-returns-6 t c = λ e. absurd (subst T (sym e) tt)
+
+blind-returns-7 : (t : ℕ) → blind-lts.Need-returns-7 (blind-claims t) (blind-at t) blind.Post
+blind-returns-7 t c = λ e. absurd (subst T (sym e) tt)
+
+blind-returns-8 : (t : ℕ) → blind-lts.Need-returns-8 (blind-claims t) (blind-at t) blind.Post
+blind-returns-8 t c = λ e. absurd (subst T (sym e) tt)
 
 both-ways-search-runs-requires : (t : ℕ) → both-ways-lts.Need-search-runs-requires (both-ways-claims t) (both-ways-at t) both-ways.Post
 both-ways-search-runs-requires t c κs = let f = c .pre .1 .1 .0 in let w = c .pre .1 .0 in let l = fork-this _ _ _ _ _ _ f (w .code-ok) in (omega (arith, c .pre .0), leads-ready (walked-leads (c .pre .1 .1 .1 .0)) w)
@@ -318,6 +409,18 @@ filled-returns-9 t c = fill-none _ _ _ _ _ (c .before .before .before .before .b
 
 filled-returns-10 : (t : ℕ) → filled-lts.Need-returns-10 (filled-claims t) (filled-at t) filled.Post
 filled-returns-10 t c = fill-none _ _ _ _ _ (c .before .before .before .before .before .args .q) _ (λ y. rw (c .enum-told4 .given .1))
+
+halted-blind-requires : (t : ℕ) → halted-lts.Need-blind-requires (halted-claims t) (halted-at t) halted.Post
+halted-blind-requires t c κs = (omega (arith, c .before .before .pre .0), c .before .before .pre .1)
+
+halted-returns : (t : ℕ) → halted-lts.Need-returns (halted-claims t) (halted-at t) halted.Post
+halted-returns t c = c .before .before .before .blind .ensures (c .before .before .if2 .taken)
+
+halted-search-at-requires : (t : ℕ) → halted-lts.Need-search-at-requires (halted-claims t) (halted-at t) halted.Post
+halted-search-at-requires t c κs = (omega (arith, c .before .before .pre .0), c .before .before .pre .1)
+
+halted-returns-2 : (t : ℕ) → halted-lts.Need-returns-2 (halted-claims t) (halted-at t) halted.Post
+halted-returns-2 t c = c .search-at .ensures
 
 keeps-execute-requires : (t : ℕ) → keeps-lts.Need-execute-requires (keeps-claims t) (keeps-at t) keeps.Post
 keeps-execute-requires t c κs = let w = c .pre .1 .0 in (reach-byte _ _ _ _ w, w .ready .room)
@@ -487,11 +590,11 @@ search-runs-halts-requires t c κs = (c .before .before .before .before .before 
 search-runs-instr-at-requires : (t : ℕ) → search-runs-lts.Need-instr-at-requires (search-runs-claims t) (search-runs-at t) search-runs.Post
 search-runs-instr-at-requires t c κs = let h = c .before .before .before .before .before .before .before .pre .1 .code-ok .short in let l = c .before .before .if2 .left in (omega arith, l)
 
-search-runs-search-at-requires : (t : ℕ) → search-runs-lts.Need-search-at-requires (search-runs-claims t) (search-runs-at t) search-runs.Post
-search-runs-search-at-requires t c κs = (omega (arith, c .before .before .before .before .before .before .before .before .pre .0), (record { ready = c .before .before .before .before .before .before .before .before .pre .1; is-next = c .instr-at .ensures }, record { halting = c .before .before .halts .ensures _ refl .0 (c .before .if3 .taken) _ (c .instr-at .ensures); outstanding = c .before .before .before .before .before .before .before .kept .ensures .1 (c .before .before .before .before .before .before .if1 .left) }))
+search-runs-halted-requires : (t : ℕ) → search-runs-lts.Need-halted-requires (search-runs-claims t) (search-runs-at t) search-runs.Post
+search-runs-halted-requires t c κs = (omega (arith, c .before .before .before .before .before .before .before .before .pre .0), (record { ready = c .before .before .before .before .before .before .before .before .pre .1; is-next = c .instr-at .ensures }, record { halting = c .before .before .halts .ensures _ refl .0 (c .before .if3 .taken) _ (c .instr-at .ensures); outstanding = c .before .before .before .before .before .before .before .kept .ensures .1 (c .before .before .before .before .before .before .if1 .left) }))
 
 search-runs-returns-3 : (t : ℕ) → search-runs-lts.Need-returns-3 (search-runs-claims t) (search-runs-at t) search-runs.Post
-search-runs-returns-3 t c = c .search-at .ensures
+search-runs-returns-3 t c = c .halted .ensures
 
 search-runs-straight-requires : (t : ℕ) → search-runs-lts.Need-straight-requires (search-runs-claims t) (search-runs-at t) search-runs.Post
 search-runs-straight-requires t c κs = c .before .before .before .before .before .before .before .before .pre .1 .code-ok
@@ -571,9 +674,30 @@ try-at-noted-requires-2 t c κs = c .before .before .before .before .before .bef
 try-at-returns-5 : (t : ℕ) → try-at-lts.Need-returns-5 (try-at-claims t) (try-at-at t) try-at.Post
 try-at-returns-5 t c = went-on _ _ _ _ _ _ _ _ (c .before .before .before .before .before .before .before .before .before .before .before .before .pre .1 .1 .1) _ (ruled-done _ _ _ (c .before .before .before .before .before .before .before .before .before .execute .ensures) (c .before .before .before .before .before .before .before .enum-told .given .1)) _ (rw (c .before .before .before .before .before .before .after .ensures) at (c .before .search-runs2 .ensures)) _ (c .noted2 .ensures)
 
-pub +both-ways+filled+keeps+own-reached+search-at+search-runs+try-at-spec : {M : Type 1} → statement M
-+both-ways+filled+keeps+own-reached+search-at+search-runs+try-at-spec =
-    close μ-both-ways μ-filled μ-keeps μ-own-reached μ-search-at μ-search-runs μ-try-at (λ t. both-ways-lts.spec (both-ways-claims t) (both-ways-at t)
+pub +blind+both-ways+filled+halted+keeps+own-reached+search-at+search-runs+try-at-spec : {M : Type 1} → statement M
++blind+both-ways+filled+halted+keeps+own-reached+search-at+search-runs+try-at-spec =
+    close μ-blind μ-both-ways μ-filled μ-halted μ-keeps μ-own-reached μ-search-at μ-search-runs μ-try-at (λ t. blind-lts.spec (blind-claims t) (blind-at t)
+    blind.Post
+    (blind-steers-requires t)
+    (blind-returns t)
+    (blind-enum-known-x t)
+    (blind-unread-requires t)
+    (blind-search-runs-requires t)
+    (blind-is-requires t)
+    (blind-returns-2 t)
+    (blind-of-register-requires t)
+    (blind-returns-3 t)
+    (blind-forgetting-requires t)
+    (blind-enum-told t)
+    (blind-enum-told-2 t)
+    (blind-enum-told-3 t)
+    (blind-enum-told-4 t)
+    (blind-returns-4 t)
+    (blind-returns-5 t)
+    (blind-returns-6 t)
+    (blind-returns-7 t)
+    (blind-returns-8 t))
+    (λ t. both-ways-lts.spec (both-ways-claims t) (both-ways-at t)
     both-ways.Post
     (both-ways-search-runs-requires t)
     (both-ways-ended-requires t)
@@ -622,6 +746,12 @@ pub +both-ways+filled+keeps+own-reached+search-at+search-runs+try-at-spec : {M :
     (filled-returns-8 t)
     (filled-returns-9 t)
     (filled-returns-10 t))
+    (λ t. halted-lts.spec (halted-claims t) (halted-at t)
+    halted.Post
+    (halted-blind-requires t)
+    (halted-returns t)
+    (halted-search-at-requires t)
+    (halted-returns-2 t))
     (λ t. keeps-lts.spec (keeps-claims t) (keeps-at t)
     keeps.Post
     (keeps-execute-requires t)
@@ -686,7 +816,7 @@ pub +both-ways+filled+keeps+own-reached+search-at+search-runs+try-at-spec : {M :
     (search-runs-returns-2 t)
     (search-runs-halts-requires t)
     (search-runs-instr-at-requires t)
-    (search-runs-search-at-requires t)
+    (search-runs-halted-requires t)
     (search-runs-returns-3 t)
     (search-runs-straight-requires t)
     (search-runs-both-ways-requires t)

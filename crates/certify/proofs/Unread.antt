@@ -1,0 +1,64 @@
+-- A failure after a blind load tells of every load, if what is read does not count.
+-- Assumes nothing.
+use mathlib.Core.Path.{_≡_, refl, sym, ap, subst, _∙_}
+use mathlib.Core.Logic.{inl, inr}
+use mathlib.Core.List.{List}
+use mathlib.Core.Option.{none, some, Option·some-injective}
+use Prim.Native.Nat.{ℕ}
+use Rattle.source.specs.Program.{instrAt}
+use Rattle.machine.specs.Rules.{next, viewOf₂, loadPre, loadDone, execute}
+use Rattle.machine.proofs.Effects.{Effect, loaded, effect, loadPreView, loadPostView}
+use Rattle.cares.specs.Cares.{careOf, Agreeing, AgreeingBut}
+use Rattle.cares.specs.declared.Cares.{Cares}
+use Rattle.cares.proofs.Agreeing.{nothing-asked}
+use Rattle.certify.specs.Below.{Code, Operand, LoadMode, Instr, Load, Message, Memory, Thread}
+use Rattle.certify.specs.Certify.{messageOf}
+use Rattle.certify.specs.Asks.{Unmet}
+use Rattle.certify.specs.Blind.{unread}
+use Rattle.certify.specs.Runs.{done, by, own}
+use Rattle.certify.specs.Sought.{Met, Sought, Reached, same, Meets, Found, Unkept}
+use Rattle.certify.specs.Under.{Under, Rests}
+use Rattle.certify.specs.Vacant.{cohering}
+use Rattle.certify.proofs.Under.{post-any, load-idle-under}
+use Rattle.certify.proofs.Resting.{set-agreeing}
+use Rattle.certify.proofs.Fit.{no-message}
+
+-- the thread after a blind load, by its parts
+pub unread-by : (k : LoadMode) (r : ℕ) (a b : Operand) (m : Memory) (s : Thread) (v p : ℕ) (d u : Thread) → v ≡ viewOf₂ s a b → p ≡ loadPre k v (s .views)
+    → d ≡ loadDone k r m 0 0 v p s → u ≡ cohering d (s .coherence) → u ≡ unread k r a b m s
+unread-by k r a b m s v p d u ev ep ed eu = rw (eu, ed, ep, ev) refl
+
+-- what a blind load leaves is under what any load leaves
+pub unread-rests : (m : Memory) (k : LoadMode) (r : ℕ) (a b : Operand) (s s' : Thread) → Under s s' → (K : List ℕ) → AgreeingBut K r s s' → careOf K r ≡ 0
+    → (t : ℕ) (y : Thread) → execute (Load k r a b) m t s' ≡ next y → Rests K (unread k r a b m s) y
+unread-rests m k r a b s s' h K others free t y e = go y (effect (Load k r a b) m t s' y e)
+  where
+    go : (y : Thread) → Effect m t s' (Load k r a b) y → Rests K (unread k r a b m s) y
+    go y (loaded d n) =
+        record {
+          under = load-idle-under s s' h a b k r m 0 t (loadPreView k s a b) (loadPostView k s' a b t) (post-any s s' h a b k t);
+          agreeing = set-agreeing K r s s' _ _ h others (nothing-asked free);
+        }
+
+-- a load that fails whatever it reads
+pub blind-found : (c : Code) (i : ℕ) (m : Memory) (s : Thread) (x : Instr) → instrAt c (s .position) ≡ some x → (q : Sought) → Unkept s x q
+    → (k : LoadMode) (r : ℕ) (a b : Operand) → x ≡ Load k r a b → (y : Thread) → y ≡ unread k r a b m s
+    → (t : Reached) → Found (q .from) (q .met) (λ v j. Meets c i m v (q .hole) j) y t → t .met ≡ q .met → careOf (t .cares .of) r ≡ 0
+    → (K : Cares) → ((v w : Thread) → Agreeing (K .of) v w → AgreeingBut (t .cares .of) r v w)
+    → Found (q .from) (q .met) (λ v j. Meets c i m v (q .hole) j) s (record { met = q .met; cares = K })
+blind-found c i m s x is-next q unkept k r a b is y is-unread t found met free K others = record { better = same; barren = barren }
+  where
+    same-next : (s' : Thread) → Rests (K .of) s s' → (z : Instr) → instrAt c (s' .position) ≡ some z → z ≡ Load k r a b
+    same-next s' rests z g = sym (Option·some-injective x z (sym is-next ∙ ap (instrAt c) (rests .under .same-position) ∙ g)) ∙ is
+
+    silent : (s' : Thread) (z : Instr) (w : Message) → z ≡ Load k r a b → messageOf i s' z ≡ some w → ⊥
+    silent s' z w e g = no-message (sym (ap (messageOf i s') e) ∙ g)
+
+    barren : (s' : Thread) → Rests (K .of) s s' → (j : ℕ) → Unmet (q .from) (q .met) j → Meets c i m s' (q .hole) j → ⊥
+    barren s' rests j u (done (inl z)) = unkept .outstanding (z .0) (rests .under .same-promises ∙ z .2)
+    barren s' rests j u (done (inr (z, g, f))) = silent s' z (f .message) (same-next s' rests z g) (f .is-own)
+    barren s' rests j u (own z w v g gw few e run) = silent s' z w (same-next s' rests z g) gw
+    barren s' rests j u (by z v y' g tl e run) =
+        let does = subst (λ (o : Instr). execute o m v s' ≡ next y') (same-next s' rests z g) e in
+        let left = unread-rests m k r a b s s' (rests .under) (t .cares .of) (others s s' (rests .agreeing)) free v y' does in
+        found .barren y' (subst (λ (o : Thread). Rests (t .cares .of) o y') (sym is-unread) left) j (subst (λ (o : Met). Unmet (q .from) o j) (sym met) u) run

@@ -1,0 +1,29 @@
+// Blind loads: they read 0 with no view of their own, and leave coherence as it is. No load leaves less, so that a failure after a blind load
+// tells of every load, wherever it reads, if what is read does not count.
+ghost use mathlib.Core.Path.{_≡_};
+ghost use Prim.Native.Nat.{_+_, _<_};
+ghost use Rattle.certify.specs.Blind.{unread};
+use crate::idle::lowered;
+use cares::Cares;
+use loads::load_done;
+use loads::load_pre;
+use machine::Memory;
+use machine::Thread;
+use rules::operands::view_of_both;
+use source::LoadMode;
+use source::Operand;
+
+// Whether a load was found to come to nothing whatever it reads; and what that rests on.
+pub struct Blind {
+    pub fails: bool,
+    pub cares: Cares,
+}
+
+// The thread after a blind load into r. At which location does not count, since coherence is put back.
+pub fn unread(k: LoadMode, r: u8, a: Operand, b: Operand, m: Memory, s: Thread) -> Thread
+    requires { ⌜ s .position + 1 < 256 ⌝ }
+    ensures { λ y. ⌜ y ≡ unread k r a b m s ⌝ }
+{
+    let va = view_of_both(s, a, b);
+    lowered(load_done(k, r, m, 0, 0, va, load_pre(k, va, s.views), s), s)
+}
