@@ -240,14 +240,16 @@ fn search_at(c: Code, i: u8, m: Memory, s: Thread, x: Instr, q: Sought) -> Reach
     let mut t = earliest(x, m, s);
     let mut r = untried(filled(c, i, m, s, x, q));
     while t <= 16 {
-        r = try_at(c, i, m, s, x, t, r, q);
-        let met = r.met;
-        if met.ended(q.from) {
-            let rests = r.cares;
-            return Reached {
-                met: met,
-                cares: rests,
-            };
+        if !hopeless(c, m, s, x, t, r) {
+            r = try_at(c, i, m, s, x, t, r, q);
+            let met = r.met;
+            if met.ended(q.from) {
+                let rests = r.cares;
+                return Reached {
+                    met: met,
+                    cares: rests,
+                };
+            }
         }
         t = following(x, m, s, t);
     }
@@ -337,9 +339,6 @@ fn try_at(c: Code, i: u8, m: Memory, s: Thread, x: Instr, t: u8, p: Tried, q: So
     requires { ⌜ Trying c m s x × ((t ≤ 16) × Knows c i m s x q p) ⌝ }
     ensures { λ r. ⌜ Went c i m s x q p t r ⌝ }
 {
-    if hopeless(c, m, s, x, t, p) {
-        return p;
-    }
     let r = execute(x, m, t, s);
     let a = r.answer;
     let RuleAnswer::Done = a else {

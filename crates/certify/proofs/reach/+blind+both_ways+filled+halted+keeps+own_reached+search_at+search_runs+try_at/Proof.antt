@@ -1,6 +1,7 @@
 -- The cycle of `certify::reach::search_runs` meets its contracts: each instruction moves the position on.
 -- Assumes nothing.
 use mathlib.Core.Path.{_≡_, refl, sym, ap, subst, _∙_}
+use mathlib.Core.Logic.{⊎-elim}
 use Prim.Native.Nat.{_+_, _-_, _*_, _≤_}
 use native.Mathlib.Nat.{mod-lt}
 use native.Mathlib.Omega.{arith}
@@ -14,7 +15,7 @@ use Rattle.machine.proofs.Cases.{ruled-done}
 use Rattle.machine.proofs.Effects.{effect}
 use Rattle.cares.specs.Cares.{Covers}
 use Rattle.certify.specs.Below.{Thread}
-use Rattle.certify.specs.Sought.{Better, same, Meets, Missed}
+use Rattle.certify.specs.Sought.{Better, same, Meets, Missed, Went}
 use Rattle.certify.specs.Straight.{here}
 use Rattle.certify.proofs.Trying.{ready-after, ready-as, ready-own, reach-byte}
 use Rattle.certify.proofs.Plain.{leads-ready, walked-leads, walked-further}
@@ -207,13 +208,13 @@ abbrev own-reached-claims : ℕ → own-reached-lts.Claims
 own-reached-claims t = (barring-reads.Asked, barring-reads.Learnt, noting-reads.Asked, noting-reads.Learnt, own-store-reads.Asked, own-store-reads.Learnt, own-message-reads.Asked, own-message-reads.Learnt, append-reads.Asked, append-reads.Learnt, search-runs-below t, search-runs.Post, and-reads.Asked, and-reads.Learnt)
 
 abbrev search-at-claims : ℕ → search-at-lts.Claims
-search-at-claims t = (earliest-reads.Asked, earliest-reads.Learnt, filled-below t, filled.Post, untried-reads.Asked, untried-reads.Learnt, try-at-below t, try-at.Post, ended-reads.Asked, ended-reads.Learnt, following-reads.Asked, following-reads.Learnt, appends-reads.Asked, appends-reads.Learnt, after-reads.Asked, after-reads.Learnt, own-reached-below t, own-reached.Post, asks-reads.Asked, asks-reads.Learnt, and-reads.Asked, and-reads.Learnt)
+search-at-claims t = (earliest-reads.Asked, earliest-reads.Learnt, filled-below t, filled.Post, untried-reads.Asked, untried-reads.Learnt, hopeless-reads.Asked, hopeless-reads.Learnt, try-at-below t, try-at.Post, ended-reads.Asked, ended-reads.Learnt, following-reads.Asked, following-reads.Learnt, appends-reads.Asked, appends-reads.Learnt, after-reads.Asked, after-reads.Learnt, own-reached-below t, own-reached.Post, asks-reads.Asked, asks-reads.Learnt, and-reads.Asked, and-reads.Learnt)
 
 abbrev search-runs-claims : ℕ → search-runs-lts.Claims
 search-runs-claims t = (kept-reads.Asked, kept-reads.Learnt, emptied-reads.Asked, emptied-reads.Learnt, halts-reads.Asked, halts-reads.Learnt, instr-at-reads.Asked, instr-at-reads.Learnt, halted-below t, halted.Post, straight-reads.Asked, straight-reads.Learnt, both-ways-below t, both-ways.Post, search-runs-below t, search-runs.Post, ended-reads.Asked, ended-reads.Learnt, before-straight-reads.Asked, before-straight-reads.Learnt)
 
 abbrev try-at-claims : ℕ → try-at-lts.Claims
-try-at-claims t = (hopeless-reads.Asked, hopeless-reads.Learnt, execute-reads.Asked, execute-reads.Learnt, after-reads.Asked, after-reads.Learnt, kept-reads.Asked, kept-reads.Learnt, emptied-reads.Asked, emptied-reads.Learnt, idle-reads.Asked, idle-reads.Learnt, lowered-reads.Asked, lowered-reads.Learnt, search-runs-below t, search-runs.Post, noted-reads.Asked, noted-reads.Learnt)
+try-at-claims t = (execute-reads.Asked, execute-reads.Learnt, after-reads.Asked, after-reads.Learnt, kept-reads.Asked, kept-reads.Learnt, emptied-reads.Asked, emptied-reads.Learnt, idle-reads.Asked, idle-reads.Learnt, lowered-reads.Asked, lowered-reads.Learnt, search-runs-below t, search-runs.Post, noted-reads.Asked, noted-reads.Learnt)
 
 blind-steers-requires : (t : ℕ) → blind-lts.Need-steers-requires (blind-claims t) (blind-at t) blind.Post
 blind-steers-requires t c κs = let w = c .pre .1 .0 in let l = there _ _ _ (w .is-next) .0 in (w .ready .code-ok .short, let h = w .ready .code-ok .short in omega arith)
@@ -527,23 +528,34 @@ search-at-untried-requires t c κs = search needs
 search-at-loop-holds : (t : ℕ) → search-at-lts.Need-loop-holds (search-at-claims t) (search-at-at t) search-at.Post search-at-Inv-loop search-at-μ-loop
 search-at-loop-holds t c = (missed-none _ _ _ _ _ _ _ _ (knows-none _ _ _ _ _ _ (c .before .before .before .pre .1 .1 .halting) _ _ (c .untried .ensures)) (c .before .before .earliest .ensures), (same, (covers-self _, c .before .before .earliest .ensures .within)))
 
+search-at-hopeless-requires : (t : ℕ) → search-at-lts.Need-hopeless-requires (search-at-claims t) (search-at-at t) search-at.Post search-at-Inv-loop search-at-μ-loop
+search-at-hopeless-requires t c κs = let w = c .before .before .before .before .before .pre .1 .0 in (w .ready .code-ok .short, (w .ready .room, c .loop-test .taken))
+
 search-at-try-at-requires : (t : ℕ) → search-at-lts.Need-try-at-requires (search-at-claims t) (search-at-at t) search-at.Post search-at-Inv-loop search-at-μ-loop
-search-at-try-at-requires t c κs = (omega (arith, c .before .before .before .before .before .pre .0), (c .before .before .before .before .before .pre .1 .0, (c .loop-test .taken, c .before .loop .inv .0 .knows)))
+search-at-try-at-requires t c κs = (omega (arith, c .before .before .before .before .before .before .before .pre .0), (c .before .before .before .before .before .before .before .pre .1 .0, (c .before .before .loop-test .taken, c .before .before .before .loop .inv .0 .knows)))
 
 search-at-ended-requires : (t : ℕ) → search-at-lts.Need-ended-requires (search-at-claims t) (search-at-at t) search-at.Post search-at-Inv-loop search-at-μ-loop
 search-at-ended-requires t c κs = search needs
 
 search-at-returns : (t : ℕ) → search-at-lts.Need-returns (search-at-claims t) (search-at-at t) search-at.Post search-at-Inv-loop search-at-μ-loop
-search-at-returns t c = reach-ended _ _ _ _ (c .before .before .before .before .before .before .before .before .before .before .args .q) _ (better-on (fills-meets _ _ _ _ (c .before .before .before .before .before .before .before .before .before .before .args .q) _ (c .before .before .before .before .before .before .before .before .before .before .pre .1 .0 .is-next) _ (c .before .before .before .before .before .before .before .before .filled .ensures)) (better-on (rw (c .before .before .before .before .before .before .before .untried .ensures) at (c .before .before .before .before .before .before .loop .inv .1 .0)) (tried-meets _ _ _ _ (c .before .before .before .before .before .before .before .before .before .before .args .q) _ (c .before .before .before .before .before .before .before .before .before .before .pre .1 .0 .is-next) _ (c .before .before .before .before .before .before .before .before .filled .ensures) _ (c .before .before .before .before .try-at .ensures .better)))) (c .before .before .ended .ensures (c .before .if1 .taken))
+search-at-returns t c = reach-ended _ _ _ _ (c .before .before .before .before .before .before .before .before .before .before .before .before .args .q) _ (better-on (fills-meets _ _ _ _ (c .before .before .before .before .before .before .before .before .before .before .before .before .args .q) _ (c .before .before .before .before .before .before .before .before .before .before .before .before .pre .1 .0 .is-next) _ (c .before .before .before .before .before .before .before .before .before .before .filled .ensures)) (better-on (rw (c .before .before .before .before .before .before .before .before .before .untried .ensures) at (c .before .before .before .before .before .before .before .before .loop .inv .1 .0)) (tried-meets _ _ _ _ (c .before .before .before .before .before .before .before .before .before .before .before .before .args .q) _ (c .before .before .before .before .before .before .before .before .before .before .before .before .pre .1 .0 .is-next) _ (c .before .before .before .before .before .before .before .before .before .before .filled .ensures) _ (c .before .before .before .before .try-at .ensures .better)))) (c .before .before .ended .ensures (c .before .if2 .taken))
 
 search-at-following-requires : (t : ℕ) → search-at-lts.Need-following-requires (search-at-claims t) (search-at-at t) search-at.Post search-at-Inv-loop search-at-μ-loop
-search-at-following-requires t c κs = (c .before .before .before .before .before .before .before .before .before .pre .1 .0 .ready .room, c .before .before .before .before .loop-test .taken)
+search-at-following-requires t c κs = (c .before .before .before .before .before .before .before .pre .1 .0 .ready .room, c .before .before .loop-test .taken)
 
 search-at-loop-less : (t : ℕ) → search-at-lts.Need-loop-less (search-at-claims t) (search-at-at t) search-at.Post search-at-Inv-loop search-at-μ-loop
-search-at-loop-less t c = let l = c .before .before .before .before .before .loop-test .taken in let k = c .following .ensures .later in omega arith
+search-at-loop-less t c = let l = c .before .before .before .loop-test .taken in let k = c .following .ensures .later in omega arith
 
 search-at-loop-again : (t : ℕ) → search-at-lts.Need-loop-again (search-at-claims t) (search-at-at t) search-at.Post search-at-Inv-loop search-at-μ-loop
-search-at-loop-again t c = (missed-on _ _ _ _ _ _ _ _ _ _ _ (c .before .before .before .before .before .before .loop .inv .0) (c .before .before .before .before .try-at .ensures) (c .following .ensures), (better-on (c .before .before .before .before .before .before .loop .inv .1 .0) (tried-meets _ _ _ _ (c .before .before .before .before .before .before .before .before .before .before .args .q) _ (c .before .before .before .before .before .before .before .before .before .before .pre .1 .0 .is-next) _ (c .before .before .before .before .before .before .before .before .filled .ensures) _ (c .before .before .before .before .try-at .ensures .better)), (covers-on (c .before .before .before .before .try-at .ensures .covers) (c .before .before .before .before .before .before .loop .inv .1 .1 .0), c .following .ensures .within)))
+search-at-loop-again t c =
+    let a = c .before .before .before .before .before .before .before .before .args in
+    let w = c .before .before .before .before .before .before .before .before .pre .1 .0 in
+    let l = c .before .before .before .before .loop in
+    let went : Went (a .c) (a .i) (a .m) (a .s) (a .x) (a .q) (l .r) (l .t) (c .before .if1 .r) = ⊎-elim
+    (λ z. subst (Went (a .c) (a .i) (a .m) (a .s) (a .x) (a .q) (l .r) (l .t)) (sym (z .5)) (z .1 .ensures))
+    (λ z. subst (Went (a .c) (a .i) (a .m) (a .s) (a .x) (a .q) (l .r) (l .t)) (sym (z .1)) (went-hopeless _ _ _ _ _ _ _ _ (l .inv .0 .knows) w (c .before .before .hopeless .ensures (not-false _ (z .0 .left)))))
+    (c .before .if1 .came) in
+    (missed-on _ _ _ _ _ _ _ _ _ _ _ (l .inv .0) went (c .following .ensures), (better-on (l .inv .1 .0) (tried-meets _ _ _ _ (a .q) _ (w .is-next) _ (c .before .before .before .before .before .before .filled .ensures) _ (went .better)), (covers-on (went .covers) (l .inv .1 .1 .0), c .following .ensures .within)))
 
 search-at-appends-requires : (t : ℕ) → search-at-lts.Need-appends-requires (search-at-claims t) (search-at-at t) search-at.Post search-at-Inv-loop search-at-μ-loop
 search-at-appends-requires t c κs = let w = c .before .before .before .before .before .pre .1 .0 in let h = w .ready .code-ok .short in let l = there _ _ _ (w .is-next) .0 in (h, omega arith)
@@ -558,7 +570,7 @@ search-at-ended-requires-2 : (t : ℕ) → search-at-lts.Need-ended-requires-2 (
 search-at-ended-requires-2 t c κs = search needs
 
 search-at-returns-2 : (t : ℕ) → search-at-lts.Need-returns-2 (search-at-claims t) (search-at-at t) search-at.Post search-at-Inv-loop search-at-μ-loop
-search-at-returns-2 t c = reach-ended _ _ _ _ (c .before .before .before .before .before .before .before .before .before .before .before .args .q) _ (better-on (fills-meets _ _ _ _ (c .before .before .before .before .before .before .before .before .before .before .before .args .q) _ (c .before .before .before .before .before .before .before .before .before .before .before .pre .1 .0 .is-next) _ (c .before .before .before .before .before .before .before .before .before .filled .ensures)) (better-on (rw (c .before .before .before .before .before .before .before .before .untried .ensures) at (c .before .before .before .before .before .before .before .loop .inv .1 .0)) (owns-meets _ _ _ _ (c .before .before .before .before .before .before .before .before .before .before .before .args .q) _ (c .before .before .before .before .before .before .before .before .before .before .before .pre .1 .0 .is-next) _ (c .before .before .before .before .before .before .before .before .before .filled .ensures) ((rw (c .before .before .before .before .after .ensures) at (c .before .before .before .own-reached .ensures .0)) .better)))) (c .before .ended2 .ensures (c .if2 .taken))
+search-at-returns-2 t c = reach-ended _ _ _ _ (c .before .before .before .before .before .before .before .before .before .before .before .args .q) _ (better-on (fills-meets _ _ _ _ (c .before .before .before .before .before .before .before .before .before .before .before .args .q) _ (c .before .before .before .before .before .before .before .before .before .before .before .pre .1 .0 .is-next) _ (c .before .before .before .before .before .before .before .before .before .filled .ensures)) (better-on (rw (c .before .before .before .before .before .before .before .before .untried .ensures) at (c .before .before .before .before .before .before .before .loop .inv .1 .0)) (owns-meets _ _ _ _ (c .before .before .before .before .before .before .before .before .before .before .before .args .q) _ (c .before .before .before .before .before .before .before .before .before .before .before .pre .1 .0 .is-next) _ (c .before .before .before .before .before .before .before .before .before .filled .ensures) ((rw (c .before .before .before .before .after .ensures) at (c .before .before .before .own-reached .ensures .0)) .better)))) (c .before .ended2 .ensures (c .if3 .taken))
 
 search-at-after-requires-2 : (t : ℕ) → search-at-lts.Need-after-requires-2 (search-at-claims t) (search-at-at t) search-at.Post search-at-Inv-loop search-at-μ-loop
 search-at-after-requires-2 t c κs = search needs
@@ -620,14 +632,8 @@ search-runs-before-straight-requires t c κs = c .before .before .before .before
 search-runs-returns-6 : (t : ℕ) → search-runs-lts.Need-returns-6 (search-runs-claims t) (search-runs-at t) search-runs.Post
 search-runs-returns-6 t c = straight-found _ _ _ _ _ (walked-leads (c .before .before .before .before .before .before .before .before .straight .ensures .1 .0)) (c .before .before .before .before .before .before .before .before .before .before .before .before .before .before .before .before .before .args .q) _ (c .before .before .before .before .before .search-runs .ensures) _ (λ s'. c .before-straight .ensures _ _ _ s' (c .before .before .before .before .before .before .before .before .straight .ensures .1 .0))
 
-try-at-hopeless-requires : (t : ℕ) → try-at-lts.Need-hopeless-requires (try-at-claims t) (try-at-at t) try-at.Post
-try-at-hopeless-requires t c κs = let w = c .pre .1 .0 in (w .ready .code-ok .short, (w .ready .room, c .pre .1 .1 .0))
-
-try-at-returns : (t : ℕ) → try-at-lts.Need-returns (try-at-claims t) (try-at-at t) try-at.Post
-try-at-returns t c = went-hopeless _ _ _ _ _ _ _ _ (c .before .before .pre .1 .1 .1) (c .before .before .pre .1 .0) (c .before .hopeless .ensures (c .if1 .taken))
-
 try-at-execute-requires : (t : ℕ) → try-at-lts.Need-execute-requires (try-at-claims t) (try-at-at t) try-at.Post
-try-at-execute-requires t c κs = let w = c .before .before .pre .1 .0 in (reach-byte _ _ _ _ w, w .ready .room)
+try-at-execute-requires t c κs = let w = c .pre .1 .0 in (reach-byte _ _ _ _ w, w .ready .room)
 
 try-at-enum-told : (t : ℕ) → try-at-lts.Need-enum-told (try-at-claims t) (try-at-at t) try-at.Post
 try-at-enum-told t c = search needs
@@ -635,8 +641,8 @@ try-at-enum-told t c = search needs
 try-at-enum-told-2 : (t : ℕ) → try-at-lts.Need-enum-told-2 (try-at-claims t) (try-at-at t) try-at.Post
 try-at-enum-told-2 t c = search needs
 
-try-at-returns-2 : (t : ℕ) → try-at-lts.Need-returns-2 (try-at-claims t) (try-at-at t) try-at.Post
-try-at-returns-2 t c = went-refused _ _ _ _ _ _ _ _ (c .before .before .before .before .before .pre .1 .1 .1) _ (c .before .before .execute .ensures) _ (c .enum-told2 .given .1)
+try-at-returns : (t : ℕ) → try-at-lts.Need-returns (try-at-claims t) (try-at-at t) try-at.Post
+try-at-returns t c = went-refused _ _ _ _ _ _ _ _ (c .before .before .before .pre .1 .1 .1) _ (c .before .before .execute .ensures) _ (c .enum-told2 .given .1)
 
 try-at-after-requires : (t : ℕ) → try-at-lts.Need-after-requires (try-at-claims t) (try-at-at t) try-at.Post
 try-at-after-requires t c κs = search needs
@@ -647,32 +653,32 @@ try-at-kept-requires t c κs = search needs
 try-at-emptied-requires : (t : ℕ) → try-at-lts.Need-emptied-requires (try-at-claims t) (try-at-at t) try-at.Post
 try-at-emptied-requires t c κs = search needs
 
-try-at-returns-3 : (t : ℕ) → try-at-lts.Need-returns-3 (try-at-claims t) (try-at-at t) try-at.Post
-try-at-returns-3 t c = went-found _ _ _ _ _ _ _ _ (c .before .before .before .before .before .before .before .before .before .before .before .pre .1 .1 .1) _ (ruled-done _ _ _ (c .before .before .before .before .before .before .before .before .execute .ensures) (c .before .before .before .before .before .before .enum-told .given .1)) (c .before .before .before .before .kept .ensures .0 (c .before .before .before .if2 .taken)) _ (rw (c .before .before .before .before .before .after .ensures) at (c .emptied .ensures))
+try-at-returns-2 : (t : ℕ) → try-at-lts.Need-returns-2 (try-at-claims t) (try-at-at t) try-at.Post
+try-at-returns-2 t c = went-found _ _ _ _ _ _ _ _ (c .before .before .before .before .before .before .before .before .before .pre .1 .1 .1) _ (ruled-done _ _ _ (c .before .before .before .before .before .before .before .before .execute .ensures) (c .before .before .before .before .before .before .enum-told .given .1)) (c .before .before .before .before .kept .ensures .0 (c .before .before .before .if1 .taken)) _ (rw (c .before .before .before .before .before .after .ensures) at (c .emptied .ensures))
 
 try-at-idle-requires : (t : ℕ) → try-at-lts.Need-idle-requires (try-at-claims t) (try-at-at t) try-at.Post
-try-at-idle-requires t c κs = c .before .before .before .before .before .before .before .before .pre .1 .0 .ready .room
+try-at-idle-requires t c κs = c .before .before .before .before .before .before .pre .1 .0 .ready .room
 
 try-at-lowered-requires : (t : ℕ) → try-at-lts.Need-lowered-requires (try-at-claims t) (try-at-at t) try-at.Post
 try-at-lowered-requires t c κs = search needs
 
 try-at-search-runs-requires : (t : ℕ) → try-at-lts.Need-search-runs-requires (try-at-claims t) (try-at-at t) try-at.Post
-try-at-search-runs-requires t c κs = let d = ruled-done _ _ _ (c .before .before .before .before .before .before .before .before .execute .ensures) (c .before .before .before .before .before .before .enum-told .given .1) in let f = further-by _ _ _ _ (c .before .before .before .before .before .before .before .before .before .before .before .pre .1 .0) _ _ d in let at = ap (λ (v : Thread). v .position) (c .lowered .ensures) in (omega (arith, c .before .before .before .before .before .before .before .before .before .before .before .pre .0), ready-as (ready-after (c .before .before .before .before .before .before .before .before .before .before .before .pre .1 .0 .ready) (effect _ _ _ _ _ d)) (ap (λ (v : Thread). v .promises) (c .lowered .ensures)))
+try-at-search-runs-requires t c κs = let d = ruled-done _ _ _ (c .before .before .before .before .before .before .before .before .execute .ensures) (c .before .before .before .before .before .before .enum-told .given .1) in let f = further-by _ _ _ _ (c .before .before .before .before .before .before .before .before .before .pre .1 .0) _ _ d in let at = ap (λ (v : Thread). v .position) (c .lowered .ensures) in (omega (arith, c .before .before .before .before .before .before .before .before .before .pre .0), ready-as (ready-after (c .before .before .before .before .before .before .before .before .before .pre .1 .0 .ready) (effect _ _ _ _ _ d)) (ap (λ (v : Thread). v .promises) (c .lowered .ensures)))
 
 try-at-noted-requires : (t : ℕ) → try-at-lts.Need-noted-requires (try-at-claims t) (try-at-at t) try-at.Post
-try-at-noted-requires t c κs = c .before .before .before .before .before .before .before .before .before .before .before .before .pre .1 .1 .0
+try-at-noted-requires t c κs = c .before .before .before .before .before .before .before .before .before .before .pre .1 .1 .0
 
-try-at-returns-4 : (t : ℕ) → try-at-lts.Need-returns-4 (try-at-claims t) (try-at-at t) try-at.Post
-try-at-returns-4 t c = went-apart _ _ _ _ _ _ _ _ (c .before .before .before .before .before .before .before .before .before .before .before .before .before .pre .1 .1 .1) _ (ruled-done _ _ _ (c .before .before .before .before .before .before .before .before .before .before .execute .ensures) (c .before .before .before .before .before .before .before .before .enum-told .given .1)) (c .before .before .before .before .idle .ensures (c .before .before .before .if3 .taken)) _ (c .before .before .lowered .ensures) _ (rw (c .before .before .before .before .before .before .before .after .ensures) at (c .before .search-runs .ensures)) _ (c .noted .ensures)
+try-at-returns-3 : (t : ℕ) → try-at-lts.Need-returns-3 (try-at-claims t) (try-at-at t) try-at.Post
+try-at-returns-3 t c = went-apart _ _ _ _ _ _ _ _ (c .before .before .before .before .before .before .before .before .before .before .before .pre .1 .1 .1) _ (ruled-done _ _ _ (c .before .before .before .before .before .before .before .before .before .before .execute .ensures) (c .before .before .before .before .before .before .before .before .enum-told .given .1)) (c .before .before .before .before .idle .ensures (c .before .before .before .if2 .taken)) _ (c .before .before .lowered .ensures) _ (rw (c .before .before .before .before .before .before .before .after .ensures) at (c .before .search-runs .ensures)) _ (c .noted .ensures)
 
 try-at-search-runs-requires-2 : (t : ℕ) → try-at-lts.Need-search-runs-requires-2 (try-at-claims t) (try-at-at t) try-at.Post
-try-at-search-runs-requires-2 t c κs = let d = ruled-done _ _ _ (c .before .before .before .before .before .before .before .execute .ensures) (c .before .before .before .before .before .enum-told .given .1) in let f = further-by _ _ _ _ (c .before .before .before .before .before .before .before .before .before .before .pre .1 .0) _ _ d in (omega (arith, c .before .before .before .before .before .before .before .before .before .before .pre .0), ready-after (c .before .before .before .before .before .before .before .before .before .before .pre .1 .0 .ready) (effect _ _ _ _ _ d))
+try-at-search-runs-requires-2 t c κs = let d = ruled-done _ _ _ (c .before .before .before .before .before .before .before .execute .ensures) (c .before .before .before .before .before .enum-told .given .1) in let f = further-by _ _ _ _ (c .before .before .before .before .before .before .before .before .pre .1 .0) _ _ d in (omega (arith, c .before .before .before .before .before .before .before .before .pre .0), ready-after (c .before .before .before .before .before .before .before .before .pre .1 .0 .ready) (effect _ _ _ _ _ d))
 
 try-at-noted-requires-2 : (t : ℕ) → try-at-lts.Need-noted-requires-2 (try-at-claims t) (try-at-at t) try-at.Post
-try-at-noted-requires-2 t c κs = c .before .before .before .before .before .before .before .before .before .before .before .pre .1 .1 .0
+try-at-noted-requires-2 t c κs = c .before .before .before .before .before .before .before .before .before .pre .1 .1 .0
 
-try-at-returns-5 : (t : ℕ) → try-at-lts.Need-returns-5 (try-at-claims t) (try-at-at t) try-at.Post
-try-at-returns-5 t c = went-on _ _ _ _ _ _ _ _ (c .before .before .before .before .before .before .before .before .before .before .before .before .pre .1 .1 .1) _ (ruled-done _ _ _ (c .before .before .before .before .before .before .before .before .before .execute .ensures) (c .before .before .before .before .before .before .before .enum-told .given .1)) _ (rw (c .before .before .before .before .before .before .after .ensures) at (c .before .search-runs2 .ensures)) _ (c .noted2 .ensures)
+try-at-returns-4 : (t : ℕ) → try-at-lts.Need-returns-4 (try-at-claims t) (try-at-at t) try-at.Post
+try-at-returns-4 t c = went-on _ _ _ _ _ _ _ _ (c .before .before .before .before .before .before .before .before .before .before .pre .1 .1 .1) _ (ruled-done _ _ _ (c .before .before .before .before .before .before .before .before .before .execute .ensures) (c .before .before .before .before .before .before .before .enum-told .given .1)) _ (rw (c .before .before .before .before .before .before .after .ensures) at (c .before .search-runs2 .ensures)) _ (c .noted2 .ensures)
 
 pub +blind+both-ways+filled+halted+keeps+own-reached+search-at+search-runs+try-at-spec : {M : Type 1} → statement M
 +blind+both-ways+filled+halted+keeps+own-reached+search-at+search-runs+try-at-spec =
@@ -793,6 +799,7 @@ pub +blind+both-ways+filled+halted+keeps+own-reached+search-at+search-runs+try-a
     (search-at-filled-requires t)
     (search-at-untried-requires t)
     (search-at-loop-holds t)
+    (search-at-hopeless-requires t)
     (search-at-try-at-requires t)
     (search-at-ended-requires t)
     (search-at-returns t)
@@ -828,21 +835,19 @@ pub +blind+both-ways+filled+halted+keeps+own-reached+search-at+search-runs+try-a
     (search-runs-returns-6 t))
     λ t. try-at-lts.spec (try-at-claims t) (try-at-at t)
     try-at.Post
-    (try-at-hopeless-requires t)
-    (try-at-returns t)
     (try-at-execute-requires t)
     (try-at-enum-told t)
     (try-at-enum-told-2 t)
-    (try-at-returns-2 t)
+    (try-at-returns t)
     (try-at-after-requires t)
     (try-at-kept-requires t)
     (try-at-emptied-requires t)
-    (try-at-returns-3 t)
+    (try-at-returns-2 t)
     (try-at-idle-requires t)
     (try-at-lowered-requires t)
     (try-at-search-runs-requires t)
     (try-at-noted-requires t)
-    (try-at-returns-4 t)
+    (try-at-returns-3 t)
     (try-at-search-runs-requires-2 t)
     (try-at-noted-requires-2 t)
-    (try-at-returns-5 t)
+    (try-at-returns-4 t)
