@@ -177,17 +177,17 @@ module _ (c : Code) (i : ℕ) (m : Memory) (s y : Thread) (lead : Leads c s y) (
 
 -- ---- each instruction moves the position on, so the search ends
 module _ (c : Code) (m : Memory) (s : Thread) (x : Instr) (w : Trying c m s x) where
-  further : (m' : Memory) (t : ℕ) (s₀ s' : Thread) → s₀ .position ≡ s .position → execute x m' t s₀ ≡ next s' → 6 * (20 - s' .position) + 5 < 6 * (20 - s .position) + 1
+  further : (m' : Memory) (t : ℕ) (s₀ s' : Thread) → s₀ .position ≡ s .position → execute x m' t s₀ ≡ next s' → 5 * (20 - s' .position) + 4 < 5 * (20 - s .position) + 1
   further m' t s₀ s' p e =
       let h = moves (effect x m' t s₀ s' e) in
       let l = there c (s .position) x (w .is-next) .0 in
       let short = w .ready .code-ok .short in
       omega arith
 
-  pub further-by : (t : ℕ) (y : Thread) → execute x m t s ≡ next y → 6 * (20 - y .position) + 5 < 6 * (20 - s .position) + 1
+  pub further-by : (t : ℕ) (y : Thread) → execute x m t s ≡ next y → 5 * (20 - y .position) + 4 < 5 * (20 - s .position) + 1
   further-by t y e = further m t s y refl e
 
-  pub further-own : (k : StoreMode) (a d : Operand) → x ≡ Store k a d → (i : ℕ) (u : Ruled) → u ≡ ruled s (ownStore k a d m i s) → u .answer ≡ Done → 6 * (20 - u .thread .position) + 5 < 6 * (20 - s .position) + 1
+  pub further-own : (k : StoreMode) (a d : Operand) → x ≡ Store k a d → (i : ℕ) (u : Ruled) → u ≡ ruled s (ownStore k a d m i s) → u .answer ≡ Done → 5 * (20 - u .thread .position) + 4 < 5 * (20 - s .position) + 1
   unfolding ownStore
   further-own k a d is i u e z =
       let m' = append m (storeMessage i a d s) in

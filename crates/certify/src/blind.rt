@@ -4,7 +4,7 @@ ghost use mathlib.Core.Path.{_≡_};
 ghost use Prim.Native.Nat.{_+_, _<_};
 ghost use Rattle.certify.specs.Blind.{unread};
 use crate::idle::lowered;
-use cares::Cares;
+use crate::reach::Reached;
 use loads::load_done;
 use loads::load_pre;
 use machine::Memory;
@@ -13,10 +13,10 @@ use rules::operands::view_of_both;
 use source::LoadMode;
 use source::Operand;
 
-// Whether a load was found to come to nothing whatever it reads; and what that rests on.
+// Whether a load is known to fail whatever it reads; and then what its search answers.
 pub struct Blind {
     pub fails: bool,
-    pub cares: Cares,
+    pub found: Reached,
 }
 
 // The thread after a blind load into r. At which location does not count, since coherence is put back.

@@ -124,7 +124,7 @@ pub fn search_runs(c: Code, i: u8, m: Memory, s: Thread, q: Sought) -> Reached
         };
     }
     if halts(c, s.position) {
-        return halted(c, i, m, s, c.instr_at(s.position), q);
+        return search_at(c, i, m, s, c.instr_at(s.position), q);
     }
     let w = straight(c, s, 12 <= m.count);
     if w.other != 0 {
@@ -142,53 +142,42 @@ pub fn search_runs(c: Code, i: u8, m: Memory, s: Thread, q: Sought) -> Reached
     }
 }
 
-// The same for a thread at its next load or store, x. With many messages about, it is asked first whether a blind load tells all: then neither
-// what is read counts nor the address.
-fn halted(c: Code, i: u8, m: Memory, s: Thread, x: Instr, q: Sought) -> Reached
-    requires { ⌜ Trying c m s x × Unkept s x q ⌝ }
-    ensures { λ r. ⌜ Found (q .from) (q .met) (λ y k. Meets c i m y (q .hole) k) s r ⌝ }
-{
-    if 12 <= m.count {
-        let b = blind(c, i, m, s, x, q);
-        if b.fails {
-            let met = q.met;
-            let rests = b.cares;
-            return Reached {
-                met: met,
-                cares: rests,
-            };
-        }
-    }
-    search_at(c, i, m, s, x, q)
-}
-
-// Whether a load comes to nothing, whatever it reads and wherever. Worth the question is a load that steers: of others it often counts what they
-// read, and the search would be in vain.
+// Whether a load comes to nothing whatever it reads: then neither what it reads counts nor its address. Worth the question is a load that
+// steers; of others it mostly counts what they read, and the search would be in vain.
 fn blind(c: Code, i: u8, m: Memory, s: Thread, x: Instr, q: Sought) -> Blind
     requires { ⌜ Trying c m s x × Unkept s x q ⌝ }
-    ensures { λ r. ⌜ (r .fails ≡ true → Found (q .from) (q .met) (λ y k. Meets c i m y (q .hole) k) s (record { met = q .met; cares = r .cares })) ⌝ }
+    ensures { λ r. ⌜ (r .fails ≡ true → Found (q .from) (q .met) (λ y k. Meets c i m y (q .hole) k) s (r .found)) ⌝ }
 {
+    let met = q.met;
+    let nothing = Reached {
+        met: met,
+        cares: Cares { of: [0; 8] },
+    };
     let unknown = Blind {
         fails: false,
-        cares: Cares { of: [0; 8] },
+        found: nothing,
     };
     if !steers(c, s.position) {
         return unknown;
     }
     match x {
         Instr::Load(k, r, a, b) => {
-            let t = search_runs(c, i, m, unread(k, r, a, b, m, s), q);
-            let met = t.met;
-            let rests = t.cares;
-            if !met.is(q.met) {
+            let then = search_runs(c, i, m, unread(k, r, a, b, m, s), q);
+            let known = then.met;
+            let rests = then.cares;
+            if !known.is(met) {
                 return unknown;
             }
             if rests.of_register(r) != 0 {
                 return unknown;
             }
+            let found = Reached {
+                met: met,
+                cares: rests.forgetting(r),
+            };
             Blind {
                 fails: true,
-                cares: rests.forgetting(r),
+                found: found,
             }
         }
         Instr::Store(_, _, _) => unknown,
@@ -231,12 +220,18 @@ fn both_ways(c: Code, i: u8, m: Memory, s: Thread, w: Walk, q: Sought) -> Reache
     }
 }
 
-// The same by the tries of x: times ascending, then the store's own message. What the tries themselves rest on is
-// worked out last: most searches that succeed never ask for it.
+// The same for a thread at its next load or store, x: times ascending, then the store's own message. What the tries themselves rest on is
+// worked out last: most searches that succeed never ask for it. With many messages about, it is asked first whether a blind load tells all.
 fn search_at(c: Code, i: u8, m: Memory, s: Thread, x: Instr, q: Sought) -> Reached
     requires { ⌜ Trying c m s x × Unkept s x q ⌝ }
     ensures { λ r. ⌜ Found (q .from) (q .met) (λ y k. Meets c i m y (q .hole) k) s r ⌝ }
 {
+    if 12 <= m.count {
+        let b = blind(c, i, m, s, x, q);
+        if b.fails {
+            return b.found;
+        }
+    }
     let mut t = earliest(x, m, s);
     let mut r = untried(filled(c, i, m, s, x, q));
     while t <= 16 {

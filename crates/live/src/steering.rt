@@ -49,12 +49,12 @@ fn among(c: Code, n: u8, m: u8, set: u16) -> bool
 }
 
 // What instruction i at position k reads comes into a store, or decides on one: it stores; it writes a register of the set, which come into
-// stores later; or it is a branch over such an instruction, or on a constant.
-fn feeds(c: Code, k: u8, i: Instruction, set: u16) -> bool
+// stores later; or it is a branch on a constant, or over an instruction that stores or writes one of those that ever come into stores.
+fn feeds(c: Code, k: u8, i: Instruction, set: u16, ever: u16) -> bool
     requires { ⌜ (c .count ≤ 16) × (k < 16) ⌝ }
 {
     if i.op == 3 {
-        return (i.k1 == 0) | (i.k2 == 0) | among(c, k + 1, i.m, set);
+        return (i.k1 == 0) | (i.k2 == 0) | among(c, k + 1, i.m, ever);
     }
     (i.op == 2) | writes(i, set)
 }
@@ -72,12 +72,14 @@ fn fed(c: Code, n: u8) -> u16
     requires { ⌜ c .count ≤ 16 ⌝ }
 {
     let mut set = 0u16;
+    let mut ever = 0u16;
     let mut k = c.count;
     while n < k {
         k -= 1;
         let i = c.instructions[k as usize];
-        if feeds(c, k, i, set) {
+        if feeds(c, k, i, set, ever) {
             set = fed_before(i, set);
+            ever = ever | set;
         }
     }
     set

@@ -32,6 +32,7 @@ use Rattle.step.specs.Trace.{stepBytes}
 use Rattle.step.proofs.Bound.{potential, lowers}
 use Rattle.step.proofs.Kept.{kept}
 use Rattle.listing.proofs.Keys.{keyPromise}
+use Rattle.table.specs.Table as table
 use Rattle.arrivals.specs.declared.Ran.{Ran}
 use Rattle.arrivals.specs.declared.Ran.the-variants.{Going, Found, Out}
 use Rattle.arrivals.specs.Visits.{visiting, Tells, Ready}
@@ -47,6 +48,16 @@ use Rattle.arrivals.proofs.Turns.{BeforeThread, BeforeStep, begins, all-done, t
 -- y is x but for thread i and the memory
 abbrev Others : Machine → ℕ → Machine → Type 0
 Others x i y = (q : Thread) → set (y .threads) i q ≡ set (x .threads) i q
+
+-- y with the memory m put back
+abbrev pub restored : Memory → Machine → Machine
+restored m y = record { memory = m; threads = y .threads }
+
+-- which thread is open next is told by the threads alone
+open-by-threads : (p : Program) (x z : Machine) (i r : ℕ) → z .threads ≡ x .threads → NextOpen p z i r → NextOpen p x i r
+open-by-threads p x z i r e n =
+    let m : NextOpen p (restored (x .memory) z) i r = record { within = n .within; after = n .after; has-next = n .has-next; ended = n .ended } in
+    subst (λ (y : Machine). NextOpen p y i r) (λ j. record { memory = x .memory; threads = e j }) m
 
 -- before thread i
 pub record AtThread (p : Program) (x : Machine) (d left : ℕ) (old : List ℕ) (m : Memory) (y : Machine) (area : List ℕ) (rest i : ℕ) : Type 0 where
@@ -108,13 +119,17 @@ module _ {p : Program} {x : Machine} {d left : ℕ} {old : List ℕ} {m : Memory
     pub in-program : i < 4 → i < p .threads
     in-program h = has-thread p x (T .ready .well) i h (T .has-next h)
 
+    -- y with its memory put back is x
+    is-restored : restored m y ≡ x
+    is-restored j = record { memory = T .memory j; threads = T .put-back j }
+
     -- what is read from the arrays
     pub code-at : i < 4 → (e : Code) → getD (p .codes) i e ≡ codeOf p i
     unfolding codeOf
     code-at h e = let q = T .four-codes in getD-any _ _ (p .codes) i (omega arith)
 
-    pub thread-at : i < 4 → (e : Thread) → getD (x .threads) i e ≡ threadOf x i
-    thread-at h e = let q = T .four-threads in getD-any _ _ (x .threads) i (omega arith)
+    pub thread-at : i < 4 → (e : Thread) → getD (y .threads) i e ≡ threadOf x i
+    thread-at h e = let q = T .four-threads in ap (λ (l : List Thread). getD l i e) (T .put-back) ∙ getD-any _ _ (x .threads) i (omega arith)
 
     pub thread-ready : i < 4 → (c : Code) (s : Thread) → c ≡ codeOf p i → s ≡ threadOf x i → certified.Ready c m s
     thread-ready h c s e f = rw (e, f, T .memory) (ready-here p x (T .ready .well) i (in-program h))
@@ -126,10 +141,11 @@ module _ {p : Program} {x : Machine} {d left : ℕ} {old : List ℕ} {m : Memory
         (omega arith, l)
 
     pub first : i < 4 → (c : Code) (s : Thread) → c ≡ codeOf p i → s ≡ threadOf x i → (u : Instr) → instrAt c (s .position) ≡ some u → (t : Attempts) → Worth c m s t → (k : Ahead) → Next stepAt 4113 c m s 0 (k .next) × Foreseen c m s k
-        → AtStep p x d left area m i c s u t y area rest k
+        → AtStep p (restored m y) d left area m i c s u t y area rest k
     first h c s e f u is-next t w k nx =
         let g : Here c m s p x i = record { code = sym e; memory = sym (T .memory); thread = sym f } in
-        record {
+        subst (λ (z : Machine). AtStep p z d left area m i c s u t y area rest k) (sym is-restored)
+        (record {
           ready = subst (Ready p x d) (sym (T .same)) (T .ready);
           here = g;
           next-is = is-next;
@@ -139,7 +155,7 @@ module _ {p : Program} {x : Machine} {d left : ℕ} {old : List ℕ} {m : Memory
           ahead = nx .1;
           same = refl;
           stands = first-try p x i (k .next) rest g h (nx .0) (T .stands);
-        }
+        })
 
     pub ends : 4 ≤ i → Tells d (visiting p x left) (Going rest) old area
     ends h =
@@ -148,23 +164,36 @@ module _ {p : Program} {x : Machine} {d left : ℕ} {old : List ℕ} {m : Memory
         (record { answer = refl; lent = T .same })
 
     -- all steps of the thread are done
-    pub leaves : {c : Code} {s : Thread} {u : Instr} {t : Attempts} {y' : Machine} {area' : List ℕ} {rest' : ℕ} {k : Ahead} → AtStep p x d left area m i c s u t y' area' rest' k → 4113 ≤ k .next
-        → (z : Machine) → z .threads ≡ set (y' .threads) i s → (r : ℕ) → NextOpen p x (i + 1) r → AtThread p x d left old m z area' rest' r
-    leaves {c} {s} {u} {t} {y'} {area'} {rest'} {k} U h z e r n =
+    pub leaves : {c : Code} {s : Thread} {u : Instr} {t : Attempts} {y' : Machine} {area' : List ℕ} {rest' : ℕ} {k : Ahead} → AtStep p (restored m y) d left area m i c s u t y' area' rest' k → 4113 ≤ k .next
+        → (z : Machine) → z .threads ≡ set (y' .threads) i s → (r : ℕ) → NextOpen p z (i + 1) r → AtThread p x d left old m z area' rest' r
+    leaves {c} {s} {u} {t} {y'} {area'} {rest'} {k} done h z e r v =
+        let U = subst (λ (o : Machine). AtStep p o d left area m i c s u t y' area' rest' k) is-restored done in
+        let b : z .threads ≡ x .threads = e ∙ U .others s ∙ ap (set (x .threads) i) (sym (U .here .thread)) ∙ set-back (x .threads) i freshThread in
+        let n = open-by-threads p x z (i + 1) r b v in
         record {
           ready = T .ready;
           memory = T .memory;
           four-codes = T .four-codes;
           four-threads = T .four-threads;
-          put-back = e ∙ U .others s ∙ ap (set (x .threads) i) (sym (U .here .thread)) ∙ set-back (x .threads) i freshThread;
+          put-back = b;
           same = U .same ∙ T .same;
           has-next = n .has-next;
           stands = to-open p x (i + 1) r rest' n (thread-done p x i (k .next) rest' h (U .stands));
         }
 
     -- an answer within the thread's steps is one of the whole
-    pub answers : {r : Ran} {new : List ℕ} → Tells d (visiting p x left) r area new → Tells d (visiting p x left) r old new
-    answers {r} {new} t = subst (λ (a : List ℕ). Tells d (visiting p x left) r a new) (T .same) t
+    pub answers : {r : Ran} {new : List ℕ} → Tells d (visiting p (restored m y) left) r area new → Tells d (visiting p x left) r old new
+    answers {r} {new} t =
+        subst (λ (a : List ℕ). Tells d (visiting p x left) r a new) (T .same)
+        (subst (λ (z : Machine). Tells d (visiting p z left) r area new) is-restored t)
+
+    -- what is below y with its memory put back is below x
+    pub less-than-whole : (n : ℕ) → n < potential p (restored m y) → n < potential p x
+    less-than-whole n = subst (λ (z : Machine). n < potential p z) is-restored
+
+    -- what is written of y with its memory put back is written of x
+    pub whole-written : (slot n : ℕ) (t : List ℕ) {new : List ℕ} → new ≡ table.kept slot (restored m y) n t → new ≡ table.kept slot x n t
+    whole-written slot n t e = e ∙ ap (λ (z : Machine). table.kept slot z n t) is-restored
 
   module _ {i : ℕ} {c : Code} {s : Thread} {w : Instr} {t : Attempts} {o : Machine} {area : List ℕ} {rest : ℕ} {k : Ahead} (U : AtStep p x d left old m i c s w t o area rest k) where
     pub step-ready : certified.Ready c m s

@@ -38,8 +38,8 @@ fn put_step(area: &mut [u8], at: usize, k: TraceStep)
 
 // Visits x and each state that an accepted step leads to: threads ascending, from the first that is not at its end; within one,
 // executions by time, then promises by location, then value. A refused step costs nothing. y is x but for the memory and for the
-// thread whose turn it is: a copy of the machine for each step would cost more than the step. Where all of it goes on, x is written
-// into the table.
+// thread whose turn it is: one copy of the machine is changed in place and put back, since a second one would cost as much as a
+// step, and take stack. Where all of it goes on, y is x again, and is written into the table.
 fn walk(
     p: Program,
     x: Machine,
@@ -59,7 +59,7 @@ fn walk(
     let mut i = first;
     while i < 4 {
         let c = p.codes[i as usize];
-        let s = x.threads[i as usize];
+        let s = y.threads[i as usize];
         let w = c.instr_at(s.position);
         let mut t = tries_of(w, c, m, s);
         let mut k = next_try(t, c, m, s, 0);
@@ -88,12 +88,13 @@ fn walk(
             k = after_try(t, c, m, s, k);
         }
         y.threads[i as usize] = s;
-        i = next_open(p, x, i + 1);
+        i = next_open(p, y, i + 1);
     }
     if table.len() < SLOT {
         return Ran::Going(rest);
     }
-    keep(table, slot, x, left - rest);
+    y.memory = m;
+    keep(table, slot, y, left - rest);
     Ran::Going(rest)
 }
 

@@ -1,6 +1,6 @@
 -- `visits::walk` meets its contract.
 -- Assumes nothing.
-use Rattle.visits.proofs.Loops.{AtThread, AtStep, enters, code-at, thread-at, thread-ready, next-there, first, ends, leaves, answers, step-ready, step-sound, step-kept, set-others, same-others, on, is-numbered, is-rejected, lower, ready-below, goes-on, runs-out, finds}
+use Rattle.visits.proofs.Loops.{AtThread, AtStep, restored, enters, code-at, thread-at, thread-ready, next-there, first, ends, leaves, answers, less-than-whole, whole-written, step-ready, step-sound, step-kept, set-others, same-others, on, is-numbered, is-rejected, lower, ready-below, goes-on, runs-out, finds}
 use Rattle.arrivals.proofs.Known.{Trusted, trusted-on, trusted-as, trusted-to, told-as, is-over, is-open, rest-within, still-true}
 use Rattle.step.proofs.Bound.{potential}
 use Rattle.tries.specs.Worthwhile.{moved}
@@ -41,16 +41,16 @@ abbrev walk-below : ℕ → In 2 walk-kinds.ps
 walk-below t = and 2 walk-kinds.ps (falls 2 walk-kinds.ps _<_ μ-walk t) walk.Pre
 
 abbrev walk-Inv-loop2 : walk-lts.InvT-loop2
-walk-Inv-loop2 first slot depth left area₀ table₀ p x m y₀ rest₀ i c s w t₀ k₀ area table y rest t k = AtStep p x depth left area₀ m i c s w t y area rest k × Trusted p table₀ table
+walk-Inv-loop2 first slot depth left area₀ table₀ p m y₀ rest₀ i c s w t₀ k₀ area table y rest t k = AtStep p (restored m y₀) depth left area₀ m i c s w t y area rest k × Trusted p table₀ table
 
 abbrev walk-μ-loop2 : walk-lts.MeasureT-loop2
-walk-μ-loop2 first slot depth left area₀ table₀ p x m y₀ rest₀ i c s w t₀ k₀ area table y rest t k = 4113 - k .next
+walk-μ-loop2 first slot depth left area₀ table₀ p m y₀ rest₀ i c s w t₀ k₀ area table y rest t k = 4113 - k .next
 
 abbrev walk-Inv-loop : walk-lts.InvT-loop
-walk-Inv-loop first slot depth left area₀ table₀ p x m y₀ rest₀ i₀ area table y rest i = AtThread p x depth left area₀ m y area rest i × Trusted p table₀ table
+walk-Inv-loop first slot depth left area₀ table₀ p m x rest₀ i₀ area table y rest i = AtThread p x depth left area₀ m y area rest i × Trusted p table₀ table
 
 abbrev walk-μ-loop : walk-lts.MeasureT-loop
-walk-μ-loop first slot depth left area₀ table₀ p x m y₀ rest₀ i₀ area table y rest i = 4 - i
+walk-μ-loop first slot depth left area₀ table₀ p m x rest₀ i₀ area table y rest i = 4 - i
 
 abbrev walk-claims : ℕ → walk-lts.Claims
 walk-claims t = (instr-at-reads.Asked, instr-at-reads.Learnt, tries-of-reads.Asked, tries-of-reads.Learnt, next-try-reads.Asked, next-try-reads.Learnt, step-at-reads.Asked, step-at-reads.Learnt, attempt-reads.Asked, attempt-reads.Learnt, memory-after-reads.Asked, memory-after-reads.Learnt, arrive-reads.Asked, arrive-reads.Learnt, walk-below t, walk.Post, put-step-reads.Asked, put-step-reads.Learnt, after-try-reads.Asked, after-try-reads.Learnt, next-open-reads.Asked, next-open-reads.Learnt, keep-reads.Asked, keep-reads.Learnt)
@@ -62,7 +62,7 @@ walk-loop-holds : (t : ℕ) → walk-lts.Need-loop-holds (walk-claims t) (walk-a
 walk-loop-holds t c =
     let a = c .before .before .before .args in
     let p = a .t1 in
-    let x = a .t2 in
+    let x = a .x in
     let codes : length (p .codes) ≡ 4 = search length-mapped depth 7 in
     let threads : length (x .threads) ≡ 4 = search length-mapped depth 7 in
     let o = c .before .before .before .pre .1 .1 in
@@ -135,7 +135,7 @@ walk-add-walk : (t : ℕ) → walk-lts.Need-add-walk (walk-claims t) (walk-at t)
 walk-add-walk t c = let r = ready-below (c .before .before .before .before .before .before .before .before .before .before .before .before .before .before .loop2 .inv .0) (c .before .before .before .before .before .before .before .before .before .before .before .before .if1 .taken) _ (c .before .before .before .before .before .before .before .before .before .before .before .step-at .ensures) (moved (c .before .before .before .before .before .before .before .before .before .before .attempt .result)) (c .before .before .before .before .before .before .before .before .before .before .attempt .ensures .0) (c .before .before .before .before .before .before .before .enum-told .given .1) _ (c .before .before .before .before .before .before .memory-after .ensures) _ refl .room in let e = ap length (c .before .before .before .before .before .before .before .before .before .before .before .before .before .before .loop2 .inv .0 .same) in let f = ap length (c .before .before .before .before .before .before .before .before .before .before .before .before .before .before .before .before .before .before .before .before .before .loop .inv .0 .same) in omega (arith, c .before .before .before .before .before .before .before .before .before .before .before .before .before .before .before .before .before .before .before .before .before .before .before .before .before)
 
 walk-walk-requires : (t : ℕ) → walk-lts.Need-walk-requires (walk-claims t) (walk-at t) walk.Post walk-Inv-loop2 walk-μ-loop2 walk-Inv-loop walk-μ-loop
-walk-walk-requires t c κs = (let l = lower (c .before .before .before .before .before .before .before .before .before .before .before .before .before .before .before .before .loop2 .inv .0) (c .before .before .before .before .before .before .before .before .before .before .before .before .before .before .if1 .taken) _ (c .before .before .before .before .before .before .before .before .before .before .before .before .before .step-at .ensures) (moved (c .before .before .before .before .before .before .before .before .before .before .before .before .attempt .result)) (c .before .before .before .before .before .before .before .before .before .before .before .before .attempt .ensures .0) (c .before .before .before .before .before .before .before .before .before .enum-told .given .1) _ (c .before .before .before .before .before .before .before .before .memory-after .ensures) _ refl in omega (arith, c .before .before .before .before .before .before .before .before .before .before .before .before .before .before .before .before .before .before .before .before .before .before .before .before .before .before .before .pre .0), (ready-below (c .before .before .before .before .before .before .before .before .before .before .before .before .before .before .before .before .loop2 .inv .0) (c .before .before .before .before .before .before .before .before .before .before .before .before .before .before .if1 .taken) _ (c .before .before .before .before .before .before .before .before .before .before .before .before .before .step-at .ensures) (moved (c .before .before .before .before .before .before .before .before .before .before .before .before .attempt .result)) (c .before .before .before .before .before .before .before .before .before .before .before .before .attempt .ensures .0) (c .before .before .before .before .before .before .before .before .before .enum-told .given .1) _ (c .before .before .before .before .before .before .before .before .memory-after .ensures) _ refl, is-open _ _ _ _ _ _ (c .before .before .before .before .before .arrive .ensures) _ _ (c .before .before .before .f .given .1), c .before .before .before .before .before .before .before .before .before .before .before .before .before .before .before .before .loop2 .inv .1 .holds))
+walk-walk-requires t c κs = (let l = less-than-whole (c .before .before .before .before .before .before .before .before .before .before .before .before .before .before .before .before .before .before .before .before .before .before .before .loop .inv .0) _ (lower (c .before .before .before .before .before .before .before .before .before .before .before .before .before .before .before .before .loop2 .inv .0) (c .before .before .before .before .before .before .before .before .before .before .before .before .before .before .if1 .taken) _ (c .before .before .before .before .before .before .before .before .before .before .before .before .before .step-at .ensures) (moved (c .before .before .before .before .before .before .before .before .before .before .before .before .attempt .result)) (c .before .before .before .before .before .before .before .before .before .before .before .before .attempt .ensures .0) (c .before .before .before .before .before .before .before .before .before .enum-told .given .1) _ (c .before .before .before .before .before .before .before .before .memory-after .ensures) _ refl) in omega (arith, c .before .before .before .before .before .before .before .before .before .before .before .before .before .before .before .before .before .before .before .before .before .before .before .before .before .before .before .pre .0), (ready-below (c .before .before .before .before .before .before .before .before .before .before .before .before .before .before .before .before .loop2 .inv .0) (c .before .before .before .before .before .before .before .before .before .before .before .before .before .before .if1 .taken) _ (c .before .before .before .before .before .before .before .before .before .before .before .before .before .step-at .ensures) (moved (c .before .before .before .before .before .before .before .before .before .before .before .before .attempt .result)) (c .before .before .before .before .before .before .before .before .before .before .before .before .attempt .ensures .0) (c .before .before .before .before .before .before .before .before .before .enum-told .given .1) _ (c .before .before .before .before .before .before .before .before .memory-after .ensures) _ refl, is-open _ _ _ _ _ _ (c .before .before .before .before .before .arrive .ensures) _ _ (c .before .before .before .f .given .1), c .before .before .before .before .before .before .before .before .before .before .before .before .before .before .before .before .loop2 .inv .1 .holds))
 
 walk-enum-known-ran : (t : ℕ) → walk-lts.Need-enum-known-ran (walk-claims t) (walk-at t) walk.Post walk-Inv-loop2 walk-μ-loop2 walk-Inv-loop walk-μ-loop
 walk-enum-known-ran t c = search needs
@@ -239,7 +239,7 @@ walk-returns-4 t c =
     let l = c .before .before .before .before .before .before .loop .inv .1 .as-long in
     let s = c .before .before .before .before .before .before .before .before .before .before .pre .1 .1 .has-slot (let h = c .before .before .before .before .if2 .left in omega arith) in
     let u = ends (c .before .before .before .before .before .before .loop .inv .0) (c .before .before .before .before .before .loop-test .left) in
-    (u, still-true _ _ _ u refl (c .before .before .before .before .before .before .before .before .before .before .pre .1 .0 .well) _ (c .before .before .before .before .before .before .loop .inv .1 .holds) (omega (arith, c .before .before .before .before .before .before .before .before .before .before .fits .left)) _ (omega arith) (c .before .before .keep .ensures))
+    (u, still-true _ _ _ u refl (c .before .before .before .before .before .before .before .before .before .before .pre .1 .0 .well) _ (c .before .before .before .before .before .before .loop .inv .1 .holds) (omega (arith, c .before .before .before .before .before .before .before .before .before .before .fits .left)) _ (omega arith) (whole-written (c .before .before .before .before .before .before .loop .inv .0) _ _ _ (c .before .before .keep .ensures)))
 
 pub +walk-spec : {M : Type 1} → statement M
 +walk-spec =

@@ -6,10 +6,10 @@ use Rattle.live.proofs.steering.fed.Statement.{statement}
 use Rattle.live.proofs.steering.fed.Tie as tie
 
 abbrev Inv-loop : tie.InvT-loop
-Inv-loop n c set₀ k₀ set k = k ≤ 16
+Inv-loop n c set₀ ever₀ k₀ set ever k = k ≤ 16
 
 abbrev μ-loop : tie.MeasureT-loop
-μ-loop n c set₀ k₀ set k = k
+μ-loop n c set₀ ever₀ k₀ set ever k = k
 
 loop-holds : tie.Need-loop-holds Inv-loop μ-loop
 loop-holds c = c .pre

@@ -32,31 +32,28 @@ use borrow.Fn.Kinds.{In}
 use borrow.Fn.PlainCycle.{Measures, is, falls, and}
 use Rattle.certify.proofs.reach.blind.Reads as blind
 use Rattle.certify.proofs.reach.blind.Kinds as blind-kinds
-use Rattle.certify.proofs.reach.+blind+both_ways+filled+halted+keeps+own_reached+search_at+search_runs+try_at.Lts-blind as blind-lts
+use Rattle.certify.proofs.reach.+blind+both_ways+filled+keeps+own_reached+search_at+search_runs+try_at.Lts-blind as blind-lts
 use Rattle.certify.proofs.reach.both_ways.Reads as both-ways
 use Rattle.certify.proofs.reach.both_ways.Kinds as both-ways-kinds
-use Rattle.certify.proofs.reach.+blind+both_ways+filled+halted+keeps+own_reached+search_at+search_runs+try_at.Lts-both_ways as both-ways-lts
+use Rattle.certify.proofs.reach.+blind+both_ways+filled+keeps+own_reached+search_at+search_runs+try_at.Lts-both_ways as both-ways-lts
 use Rattle.certify.proofs.reach.filled.Reads as filled
 use Rattle.certify.proofs.reach.filled.Kinds as filled-kinds
-use Rattle.certify.proofs.reach.+blind+both_ways+filled+halted+keeps+own_reached+search_at+search_runs+try_at.Lts-filled as filled-lts
-use Rattle.certify.proofs.reach.halted.Reads as halted
-use Rattle.certify.proofs.reach.halted.Kinds as halted-kinds
-use Rattle.certify.proofs.reach.+blind+both_ways+filled+halted+keeps+own_reached+search_at+search_runs+try_at.Lts-halted as halted-lts
+use Rattle.certify.proofs.reach.+blind+both_ways+filled+keeps+own_reached+search_at+search_runs+try_at.Lts-filled as filled-lts
 use Rattle.certify.proofs.reach.keeps.Reads as keeps
 use Rattle.certify.proofs.reach.keeps.Kinds as keeps-kinds
-use Rattle.certify.proofs.reach.+blind+both_ways+filled+halted+keeps+own_reached+search_at+search_runs+try_at.Lts-keeps as keeps-lts
+use Rattle.certify.proofs.reach.+blind+both_ways+filled+keeps+own_reached+search_at+search_runs+try_at.Lts-keeps as keeps-lts
 use Rattle.certify.proofs.reach.own_reached.Reads as own-reached
 use Rattle.certify.proofs.reach.own_reached.Kinds as own-reached-kinds
-use Rattle.certify.proofs.reach.+blind+both_ways+filled+halted+keeps+own_reached+search_at+search_runs+try_at.Lts-own_reached as own-reached-lts
+use Rattle.certify.proofs.reach.+blind+both_ways+filled+keeps+own_reached+search_at+search_runs+try_at.Lts-own_reached as own-reached-lts
 use Rattle.certify.proofs.reach.search_at.Reads as search-at
 use Rattle.certify.proofs.reach.search_at.Kinds as search-at-kinds
-use Rattle.certify.proofs.reach.+blind+both_ways+filled+halted+keeps+own_reached+search_at+search_runs+try_at.Lts-search_at as search-at-lts
+use Rattle.certify.proofs.reach.+blind+both_ways+filled+keeps+own_reached+search_at+search_runs+try_at.Lts-search_at as search-at-lts
 use Rattle.certify.proofs.reach.search_runs.Reads as search-runs
 use Rattle.certify.proofs.reach.search_runs.Kinds as search-runs-kinds
-use Rattle.certify.proofs.reach.+blind+both_ways+filled+halted+keeps+own_reached+search_at+search_runs+try_at.Lts-search_runs as search-runs-lts
+use Rattle.certify.proofs.reach.+blind+both_ways+filled+keeps+own_reached+search_at+search_runs+try_at.Lts-search_runs as search-runs-lts
 use Rattle.certify.proofs.reach.try_at.Reads as try-at
 use Rattle.certify.proofs.reach.try_at.Kinds as try-at-kinds
-use Rattle.certify.proofs.reach.+blind+both_ways+filled+halted+keeps+own_reached+search_at+search_runs+try_at.Lts-try_at as try-at-lts
+use Rattle.certify.proofs.reach.+blind+both_ways+filled+keeps+own_reached+search_at+search_runs+try_at.Lts-try_at as try-at-lts
 use Rattle.cares.proofs.Cares.and.Reads as and-reads
 use Rattle.cares.proofs.Cares.forgetting.Reads as forgetting-reads
 use Rattle.cares.proofs.Cares.noting.Reads as noting-reads
@@ -95,39 +92,36 @@ use Rattle.rules.proofs.operands.view_of.Reads as view-of-reads
 use Rattle.rules.proofs.own_store.Reads as own-store-reads
 use Rattle.source.proofs.Code.instr_at.Reads as instr-at-reads
 use Rattle.stores.proofs.below_time.Reads as below-time-reads
-use Rattle.certify.proofs.reach.+blind+both_ways+filled+halted+keeps+own_reached+search_at+search_runs+try_at.{
+use Rattle.certify.proofs.reach.+blind+both_ways+filled+keeps+own_reached+search_at+search_runs+try_at.{
   statement,
 }
-use Rattle.certify.proofs.reach.+blind+both_ways+filled+halted+keeps+own_reached+search_at+search_runs+try_at.Tie.{
+use Rattle.certify.proofs.reach.+blind+both_ways+filled+keeps+own_reached+search_at+search_runs+try_at.Tie.{
   close,
 }
 
 abbrev μ-blind : Measures 0 blind-kinds.ps ℕ
-μ-blind κs a = 6 * (20 - a .1 .1 .1 .0 .position) + 3
+μ-blind κs a = 5 * (20 - a .1 .1 .1 .0 .position) + 2
 
 abbrev μ-both-ways : Measures 0 both-ways-kinds.ps ℕ
-μ-both-ways κs a = 6 * (20 - a .1 .1 .1 .0 .position) + 3
+μ-both-ways κs a = 5 * (20 - a .1 .1 .1 .0 .position) + 3
 
 abbrev μ-filled : Measures 0 filled-kinds.ps ℕ
-μ-filled κs a = 6 * (20 - a .1 .1 .1 .0 .position) + 2
-
-abbrev μ-halted : Measures 0 halted-kinds.ps ℕ
-μ-halted κs a = 6 * (20 - a .1 .1 .1 .0 .position) + 4
+μ-filled κs a = 5 * (20 - a .1 .1 .1 .0 .position) + 2
 
 abbrev μ-keeps : Measures 0 keeps-kinds.ps ℕ
-μ-keeps κs a = 6 * (20 - a .1 .1 .1 .0 .position) + 1
+μ-keeps κs a = 5 * (20 - a .1 .1 .1 .0 .position) + 1
 
 abbrev μ-own-reached : Measures 0 own-reached-kinds.ps ℕ
-μ-own-reached κs a = 6 * (20 - a .1 .1 .1 .0 .position) + 1
+μ-own-reached κs a = 5 * (20 - a .1 .1 .1 .0 .position) + 1
 
 abbrev μ-search-at : Measures 0 search-at-kinds.ps ℕ
-μ-search-at κs a = 6 * (20 - a .1 .1 .1 .0 .position) + 3
+μ-search-at κs a = 5 * (20 - a .1 .1 .1 .0 .position) + 3
 
 abbrev μ-search-runs : Measures 0 search-runs-kinds.ps ℕ
-μ-search-runs κs a = 6 * (20 - a .1 .1 .1 .0 .position) + 5
+μ-search-runs κs a = 5 * (20 - a .1 .1 .1 .0 .position) + 4
 
 abbrev μ-try-at : Measures 0 try-at-kinds.ps ℕ
-μ-try-at κs a = 6 * (20 - a .1 .1 .1 .0 .position) + 2
+μ-try-at κs a = 5 * (20 - a .1 .1 .1 .0 .position) + 2
 
 abbrev blind-at : ℕ → In 0 blind-kinds.ps
 blind-at t = and 0 blind-kinds.ps (is 0 blind-kinds.ps μ-blind t) blind.Pre
@@ -147,12 +141,6 @@ filled-at t = and 0 filled-kinds.ps (is 0 filled-kinds.ps μ-filled t) filled.Pr
 
 abbrev filled-below : ℕ → In 0 filled-kinds.ps
 filled-below t = and 0 filled-kinds.ps (falls 0 filled-kinds.ps _<_ μ-filled t) filled.Pre
-
-abbrev halted-at : ℕ → In 0 halted-kinds.ps
-halted-at t = and 0 halted-kinds.ps (is 0 halted-kinds.ps μ-halted t) halted.Pre
-
-abbrev halted-below : ℕ → In 0 halted-kinds.ps
-halted-below t = and 0 halted-kinds.ps (falls 0 halted-kinds.ps _<_ μ-halted t) halted.Pre
 
 abbrev keeps-at : ℕ → In 0 keeps-kinds.ps
 keeps-at t = and 0 keeps-kinds.ps (is 0 keeps-kinds.ps μ-keeps t) keeps.Pre
@@ -198,9 +186,6 @@ both-ways-claims t = (search-runs-below t, search-runs.Post, ended-reads.Asked, 
 abbrev filled-claims : ℕ → filled-lts.Claims
 filled-claims t = (has-reads.Asked, has-reads.Learnt, own-message-reads.Asked, own-message-reads.Learnt, seeks-reads.Asked, seeks-reads.Learnt, with-reads.Asked, with-reads.Learnt, view-of-reads.Asked, view-of-reads.Learnt, below-time-reads.Asked, below-time-reads.Learnt, fill-reads.Asked, fill-reads.Learnt, keeps-below t, keeps.Post)
 
-abbrev halted-claims : ℕ → halted-lts.Claims
-halted-claims t = (blind-below t, blind.Post, search-at-below t, search-at.Post)
-
 abbrev keeps-claims : ℕ → keeps-lts.Claims
 keeps-claims t = (execute-reads.Asked, execute-reads.Learnt, certified-reads.Asked, certified-reads.Learnt, search-runs-below t, search-runs.Post)
 
@@ -208,16 +193,16 @@ abbrev own-reached-claims : ℕ → own-reached-lts.Claims
 own-reached-claims t = (barring-reads.Asked, barring-reads.Learnt, noting-reads.Asked, noting-reads.Learnt, own-store-reads.Asked, own-store-reads.Learnt, own-message-reads.Asked, own-message-reads.Learnt, append-reads.Asked, append-reads.Learnt, search-runs-below t, search-runs.Post, and-reads.Asked, and-reads.Learnt)
 
 abbrev search-at-claims : ℕ → search-at-lts.Claims
-search-at-claims t = (earliest-reads.Asked, earliest-reads.Learnt, filled-below t, filled.Post, untried-reads.Asked, untried-reads.Learnt, hopeless-reads.Asked, hopeless-reads.Learnt, try-at-below t, try-at.Post, ended-reads.Asked, ended-reads.Learnt, following-reads.Asked, following-reads.Learnt, appends-reads.Asked, appends-reads.Learnt, after-reads.Asked, after-reads.Learnt, own-reached-below t, own-reached.Post, asks-reads.Asked, asks-reads.Learnt, and-reads.Asked, and-reads.Learnt)
+search-at-claims t = (blind-below t, blind.Post, earliest-reads.Asked, earliest-reads.Learnt, filled-below t, filled.Post, untried-reads.Asked, untried-reads.Learnt, hopeless-reads.Asked, hopeless-reads.Learnt, try-at-below t, try-at.Post, ended-reads.Asked, ended-reads.Learnt, following-reads.Asked, following-reads.Learnt, appends-reads.Asked, appends-reads.Learnt, after-reads.Asked, after-reads.Learnt, own-reached-below t, own-reached.Post, asks-reads.Asked, asks-reads.Learnt, and-reads.Asked, and-reads.Learnt)
 
 abbrev search-runs-claims : ℕ → search-runs-lts.Claims
-search-runs-claims t = (kept-reads.Asked, kept-reads.Learnt, emptied-reads.Asked, emptied-reads.Learnt, halts-reads.Asked, halts-reads.Learnt, instr-at-reads.Asked, instr-at-reads.Learnt, halted-below t, halted.Post, straight-reads.Asked, straight-reads.Learnt, both-ways-below t, both-ways.Post, search-runs-below t, search-runs.Post, ended-reads.Asked, ended-reads.Learnt, before-straight-reads.Asked, before-straight-reads.Learnt)
+search-runs-claims t = (kept-reads.Asked, kept-reads.Learnt, emptied-reads.Asked, emptied-reads.Learnt, halts-reads.Asked, halts-reads.Learnt, instr-at-reads.Asked, instr-at-reads.Learnt, search-at-below t, search-at.Post, straight-reads.Asked, straight-reads.Learnt, both-ways-below t, both-ways.Post, search-runs-below t, search-runs.Post, ended-reads.Asked, ended-reads.Learnt, before-straight-reads.Asked, before-straight-reads.Learnt)
 
 abbrev try-at-claims : ℕ → try-at-lts.Claims
 try-at-claims t = (execute-reads.Asked, execute-reads.Learnt, after-reads.Asked, after-reads.Learnt, kept-reads.Asked, kept-reads.Learnt, emptied-reads.Asked, emptied-reads.Learnt, idle-reads.Asked, idle-reads.Learnt, lowered-reads.Asked, lowered-reads.Learnt, search-runs-below t, search-runs.Post, noted-reads.Asked, noted-reads.Learnt)
 
 blind-steers-requires : (t : ℕ) → blind-lts.Need-steers-requires (blind-claims t) (blind-at t) blind.Post
-blind-steers-requires t c κs = let w = c .pre .1 .0 in let l = there _ _ _ (w .is-next) .0 in (w .ready .code-ok .short, let h = w .ready .code-ok .short in omega arith)
+blind-steers-requires t c κs = let w = c .before .pre .1 .0 in let l = there _ _ _ (w .is-next) .0 in (w .ready .code-ok .short, let h = w .ready .code-ok .short in omega arith)
 
 blind-returns : (t : ℕ) → blind-lts.Need-returns (blind-claims t) (blind-at t) blind.Post
 blind-returns t c = λ e. absurd (subst T (sym e) tt)
@@ -226,10 +211,10 @@ blind-enum-known-x : (t : ℕ) → blind-lts.Need-enum-known-x (blind-claims t) 
 blind-enum-known-x t c = search needs
 
 blind-unread-requires : (t : ℕ) → blind-lts.Need-unread-requires (blind-claims t) (blind-at t) blind.Post
-blind-unread-requires t c κs = let w = c .before .before .before .before .before .pre .1 .0 in let h = reach-byte _ _ _ _ w in let q = rw (c .before .x .given .1) at h in omega arith
+blind-unread-requires t c κs = let w = c .before .before .before .before .before .before .pre .1 .0 in let h = reach-byte _ _ _ _ w in let q = rw (c .before .x .given .1) at h in omega arith
 
 blind-search-runs-requires : (t : ℕ) → blind-lts.Need-search-runs-requires (blind-claims t) (blind-at t) blind.Post
-blind-search-runs-requires t c κs = let w = c .before .before .before .before .before .before .pre .1 .0 in let at = ap (λ (v : Thread). v .position) (c .unread .ensures) in let l = there _ _ _ (w .is-next) .0 in let h = w .ready .code-ok .short in (omega (arith, c .before .before .before .before .before .before .pre .0), ready-as (w .ready) (ap (λ (v : Thread). v .promises) (c .unread .ensures)))
+blind-search-runs-requires t c κs = let w = c .before .before .before .before .before .before .before .pre .1 .0 in let at = ap (λ (v : Thread). v .position) (c .unread .ensures) in let l = there _ _ _ (w .is-next) .0 in let h = w .ready .code-ok .short in (omega (arith, c .before .before .before .before .before .before .before .pre .0), ready-as (w .ready) (ap (λ (v : Thread). v .promises) (c .unread .ensures)))
 
 blind-is-requires : (t : ℕ) → blind-lts.Need-is-requires (blind-claims t) (blind-at t) blind.Post
 blind-is-requires t c κs = search needs
@@ -259,7 +244,7 @@ blind-enum-told-4 : (t : ℕ) → blind-lts.Need-enum-told-4 (blind-claims t) (b
 blind-enum-told-4 t c = search needs
 
 blind-returns-4 : (t : ℕ) → blind-lts.Need-returns-4 (blind-claims t) (blind-at t) blind.Post
-blind-returns-4 t c = λ e. blind-found _ _ _ _ _ (c .before .before .before .before .before .before .before .before .before .before .before .before .before .before .pre .1 .0 .is-next) (c .before .before .before .before .before .before .before .before .before .before .before .before .before .before .args .q) (c .before .before .before .before .before .before .before .before .before .before .before .before .before .before .pre .1 .1) _ _ _ _ (c .before .before .before .before .before .before .before .before .before .before .x .given .1) _ (c .before .before .before .before .before .before .before .before .unread .ensures) _ (c .before .before .before .before .before .before .before .search-runs .ensures) (c .before .before .before .before .is .ensures (not-false _ (c .before .before .before .if2 .left))) (sym (c .before .before .of-register .ensures) ∙ c .before .if3 .left) _ (λ v w. c .forgetting .ensures v w)
+blind-returns-4 t c = λ e. blind-found _ _ _ _ _ (c .before .before .before .before .before .before .before .before .before .before .before .before .before .before .before .pre .1 .0 .is-next) (c .before .before .before .before .before .before .before .before .before .before .before .before .before .before .before .args .q) (c .before .before .before .before .before .before .before .before .before .before .before .before .before .before .before .pre .1 .1) _ _ _ _ (c .before .before .before .before .before .before .before .before .before .before .x .given .1) _ (c .before .before .before .before .before .before .before .before .unread .ensures) _ (c .before .before .before .before .before .before .before .search-runs .ensures) (c .before .before .before .before .is .ensures (not-false _ (c .before .before .before .if2 .left))) (sym (c .before .before .of-register .ensures) ∙ c .before .if3 .left) _ (λ v w. c .forgetting .ensures v w)
 
 blind-returns-5 : (t : ℕ) → blind-lts.Need-returns-5 (blind-claims t) (blind-at t) blind.Post
 blind-returns-5 t c = λ e. absurd (subst T (sym e) tt)
@@ -411,18 +396,6 @@ filled-returns-9 t c = fill-none _ _ _ _ _ (c .before .before .before .before .b
 filled-returns-10 : (t : ℕ) → filled-lts.Need-returns-10 (filled-claims t) (filled-at t) filled.Post
 filled-returns-10 t c = fill-none _ _ _ _ _ (c .before .before .before .before .before .args .q) _ (λ y. rw (c .enum-told4 .given .1))
 
-halted-blind-requires : (t : ℕ) → halted-lts.Need-blind-requires (halted-claims t) (halted-at t) halted.Post
-halted-blind-requires t c κs = (omega (arith, c .before .before .pre .0), c .before .before .pre .1)
-
-halted-returns : (t : ℕ) → halted-lts.Need-returns (halted-claims t) (halted-at t) halted.Post
-halted-returns t c = c .before .before .before .blind .ensures (c .before .before .if2 .taken)
-
-halted-search-at-requires : (t : ℕ) → halted-lts.Need-search-at-requires (halted-claims t) (halted-at t) halted.Post
-halted-search-at-requires t c κs = (omega (arith, c .before .before .pre .0), c .before .before .pre .1)
-
-halted-returns-2 : (t : ℕ) → halted-lts.Need-returns-2 (halted-claims t) (halted-at t) halted.Post
-halted-returns-2 t c = c .search-at .ensures
-
 keeps-execute-requires : (t : ℕ) → keeps-lts.Need-execute-requires (keeps-claims t) (keeps-at t) keeps.Post
 keeps-execute-requires t c κs = let w = c .pre .1 .0 in (reach-byte _ _ _ _ w, w .ready .room)
 
@@ -516,73 +489,79 @@ search-at-Inv-loop c i m s x q t₀ r₀ t r = Missed c i m s x q r 0 t × (Bett
 abbrev search-at-μ-loop : search-at-lts.MeasureT-loop
 search-at-μ-loop c i m s x q t₀ r₀ t r = 17 - t
 
+search-at-blind-requires : (t : ℕ) → search-at-lts.Need-blind-requires (search-at-claims t) (search-at-at t) search-at.Post search-at-Inv-loop search-at-μ-loop
+search-at-blind-requires t c κs = (omega (arith, c .before .before .pre .0), c .before .before .pre .1)
+
+search-at-returns : (t : ℕ) → search-at-lts.Need-returns (search-at-claims t) (search-at-at t) search-at.Post search-at-Inv-loop search-at-μ-loop
+search-at-returns t c = c .before .before .blind .ensures (c .before .if2 .taken)
+
 search-at-earliest-requires : (t : ℕ) → search-at-lts.Need-earliest-requires (search-at-claims t) (search-at-at t) search-at.Post search-at-Inv-loop search-at-μ-loop
-search-at-earliest-requires t c κs = c .pre .1 .0 .ready .room
+search-at-earliest-requires t c κs = c .before .before .pre .1 .0 .ready .room
 
 search-at-filled-requires : (t : ℕ) → search-at-lts.Need-filled-requires (search-at-claims t) (search-at-at t) search-at.Post search-at-Inv-loop search-at-μ-loop
-search-at-filled-requires t c κs = (omega (arith, c .before .pre .0), c .before .pre .1 .0)
+search-at-filled-requires t c κs = (omega (arith, c .before .before .before .pre .0), c .before .before .before .pre .1 .0)
 
 search-at-untried-requires : (t : ℕ) → search-at-lts.Need-untried-requires (search-at-claims t) (search-at-at t) search-at.Post search-at-Inv-loop search-at-μ-loop
 search-at-untried-requires t c κs = search needs
 
 search-at-loop-holds : (t : ℕ) → search-at-lts.Need-loop-holds (search-at-claims t) (search-at-at t) search-at.Post search-at-Inv-loop search-at-μ-loop
-search-at-loop-holds t c = (missed-none _ _ _ _ _ _ _ _ (knows-none _ _ _ _ _ _ (c .before .before .before .pre .1 .1 .halting) _ _ (c .untried .ensures)) (c .before .before .earliest .ensures), (same, (covers-self _, c .before .before .earliest .ensures .within)))
+search-at-loop-holds t c = (missed-none _ _ _ _ _ _ _ _ (knows-none _ _ _ _ _ _ (c .before .before .before .before .before .pre .1 .1 .halting) _ _ (c .untried .ensures)) (c .before .before .earliest .ensures), (same, (covers-self _, c .before .before .earliest .ensures .within)))
 
 search-at-hopeless-requires : (t : ℕ) → search-at-lts.Need-hopeless-requires (search-at-claims t) (search-at-at t) search-at.Post search-at-Inv-loop search-at-μ-loop
-search-at-hopeless-requires t c κs = let w = c .before .before .before .before .before .pre .1 .0 in (w .ready .code-ok .short, (w .ready .room, c .loop-test .taken))
+search-at-hopeless-requires t c κs = let w = c .before .before .before .before .before .before .before .pre .1 .0 in (w .ready .code-ok .short, (w .ready .room, c .loop-test .taken))
 
 search-at-try-at-requires : (t : ℕ) → search-at-lts.Need-try-at-requires (search-at-claims t) (search-at-at t) search-at.Post search-at-Inv-loop search-at-μ-loop
-search-at-try-at-requires t c κs = (omega (arith, c .before .before .before .before .before .before .before .pre .0), (c .before .before .before .before .before .before .before .pre .1 .0, (c .before .before .loop-test .taken, c .before .before .before .loop .inv .0 .knows)))
+search-at-try-at-requires t c κs = (omega (arith, c .before .before .before .before .before .before .before .before .before .pre .0), (c .before .before .before .before .before .before .before .before .before .pre .1 .0, (c .before .before .loop-test .taken, c .before .before .before .loop .inv .0 .knows)))
 
 search-at-ended-requires : (t : ℕ) → search-at-lts.Need-ended-requires (search-at-claims t) (search-at-at t) search-at.Post search-at-Inv-loop search-at-μ-loop
 search-at-ended-requires t c κs = search needs
 
-search-at-returns : (t : ℕ) → search-at-lts.Need-returns (search-at-claims t) (search-at-at t) search-at.Post search-at-Inv-loop search-at-μ-loop
-search-at-returns t c = reach-ended _ _ _ _ (c .before .before .before .before .before .before .before .before .before .before .before .before .args .q) _ (better-on (fills-meets _ _ _ _ (c .before .before .before .before .before .before .before .before .before .before .before .before .args .q) _ (c .before .before .before .before .before .before .before .before .before .before .before .before .pre .1 .0 .is-next) _ (c .before .before .before .before .before .before .before .before .before .before .filled .ensures)) (better-on (rw (c .before .before .before .before .before .before .before .before .before .untried .ensures) at (c .before .before .before .before .before .before .before .before .loop .inv .1 .0)) (tried-meets _ _ _ _ (c .before .before .before .before .before .before .before .before .before .before .before .before .args .q) _ (c .before .before .before .before .before .before .before .before .before .before .before .before .pre .1 .0 .is-next) _ (c .before .before .before .before .before .before .before .before .before .before .filled .ensures) _ (c .before .before .before .before .try-at .ensures .better)))) (c .before .before .ended .ensures (c .before .if2 .taken))
+search-at-returns-2 : (t : ℕ) → search-at-lts.Need-returns-2 (search-at-claims t) (search-at-at t) search-at.Post search-at-Inv-loop search-at-μ-loop
+search-at-returns-2 t c = reach-ended _ _ _ _ (c .before .before .before .before .before .before .before .before .before .before .before .before .before .before .args .q) _ (better-on (fills-meets _ _ _ _ (c .before .before .before .before .before .before .before .before .before .before .before .before .before .before .args .q) _ (c .before .before .before .before .before .before .before .before .before .before .before .before .before .before .pre .1 .0 .is-next) _ (c .before .before .before .before .before .before .before .before .before .before .filled .ensures)) (better-on (rw (c .before .before .before .before .before .before .before .before .before .untried .ensures) at (c .before .before .before .before .before .before .before .before .loop .inv .1 .0)) (tried-meets _ _ _ _ (c .before .before .before .before .before .before .before .before .before .before .before .before .before .before .args .q) _ (c .before .before .before .before .before .before .before .before .before .before .before .before .before .before .pre .1 .0 .is-next) _ (c .before .before .before .before .before .before .before .before .before .before .filled .ensures) _ (c .before .before .before .before .try-at .ensures .better)))) (c .before .before .ended .ensures (c .before .if4 .taken))
 
 search-at-following-requires : (t : ℕ) → search-at-lts.Need-following-requires (search-at-claims t) (search-at-at t) search-at.Post search-at-Inv-loop search-at-μ-loop
-search-at-following-requires t c κs = (c .before .before .before .before .before .before .before .pre .1 .0 .ready .room, c .before .before .loop-test .taken)
+search-at-following-requires t c κs = (c .before .before .before .before .before .before .before .before .before .pre .1 .0 .ready .room, c .before .before .loop-test .taken)
 
 search-at-loop-less : (t : ℕ) → search-at-lts.Need-loop-less (search-at-claims t) (search-at-at t) search-at.Post search-at-Inv-loop search-at-μ-loop
 search-at-loop-less t c = let l = c .before .before .before .loop-test .taken in let k = c .following .ensures .later in omega arith
 
 search-at-loop-again : (t : ℕ) → search-at-lts.Need-loop-again (search-at-claims t) (search-at-at t) search-at.Post search-at-Inv-loop search-at-μ-loop
 search-at-loop-again t c =
-    let a = c .before .before .before .before .before .before .before .before .args in
-    let w = c .before .before .before .before .before .before .before .before .pre .1 .0 in
+    let a = c .before .before .before .before .before .before .before .before .before .before .args in
+    let w = c .before .before .before .before .before .before .before .before .before .before .pre .1 .0 in
     let l = c .before .before .before .before .loop in
-    let went : Went (a .c) (a .i) (a .m) (a .s) (a .x) (a .q) (l .r) (l .t) (c .before .if1 .r) = ⊎-elim
+    let went : Went (a .c) (a .i) (a .m) (a .s) (a .x) (a .q) (l .r) (l .t) (c .before .if3 .r) = ⊎-elim
     (λ z. subst (Went (a .c) (a .i) (a .m) (a .s) (a .x) (a .q) (l .r) (l .t)) (sym (z .5)) (z .1 .ensures))
     (λ z. subst (Went (a .c) (a .i) (a .m) (a .s) (a .x) (a .q) (l .r) (l .t)) (sym (z .1)) (went-hopeless _ _ _ _ _ _ _ _ (l .inv .0 .knows) w (c .before .before .hopeless .ensures (not-false _ (z .0 .left)))))
-    (c .before .if1 .came) in
+    (c .before .if3 .came) in
     (missed-on _ _ _ _ _ _ _ _ _ _ _ (l .inv .0) went (c .following .ensures), (better-on (l .inv .1 .0) (tried-meets _ _ _ _ (a .q) _ (w .is-next) _ (c .before .before .before .before .before .before .filled .ensures) _ (went .better)), (covers-on (went .covers) (l .inv .1 .1 .0), c .following .ensures .within)))
 
 search-at-appends-requires : (t : ℕ) → search-at-lts.Need-appends-requires (search-at-claims t) (search-at-at t) search-at.Post search-at-Inv-loop search-at-μ-loop
-search-at-appends-requires t c κs = let w = c .before .before .before .before .before .pre .1 .0 in let h = w .ready .code-ok .short in let l = there _ _ _ (w .is-next) .0 in (h, omega arith)
+search-at-appends-requires t c κs = let w = c .before .before .before .before .before .before .before .pre .1 .0 in let h = w .ready .code-ok .short in let l = there _ _ _ (w .is-next) .0 in (h, omega arith)
 
 search-at-after-requires : (t : ℕ) → search-at-lts.Need-after-requires (search-at-claims t) (search-at-at t) search-at.Post search-at-Inv-loop search-at-μ-loop
 search-at-after-requires t c κs = search needs
 
 search-at-own-reached-requires : (t : ℕ) → search-at-lts.Need-own-reached-requires (search-at-claims t) (search-at-at t) search-at.Post search-at-Inv-loop search-at-μ-loop
-search-at-own-reached-requires t c κs = (omega (arith, c .before .before .before .before .before .before .before .pre .0), (c .before .before .before .before .before .before .before .pre .1 .0, c .before .appends .ensures))
+search-at-own-reached-requires t c κs = (omega (arith, c .before .before .before .before .before .before .before .before .before .pre .0), (c .before .before .before .before .before .before .before .before .before .pre .1 .0, c .before .appends .ensures))
 
 search-at-ended-requires-2 : (t : ℕ) → search-at-lts.Need-ended-requires-2 (search-at-claims t) (search-at-at t) search-at.Post search-at-Inv-loop search-at-μ-loop
 search-at-ended-requires-2 t c κs = search needs
 
-search-at-returns-2 : (t : ℕ) → search-at-lts.Need-returns-2 (search-at-claims t) (search-at-at t) search-at.Post search-at-Inv-loop search-at-μ-loop
-search-at-returns-2 t c = reach-ended _ _ _ _ (c .before .before .before .before .before .before .before .before .before .before .before .args .q) _ (better-on (fills-meets _ _ _ _ (c .before .before .before .before .before .before .before .before .before .before .before .args .q) _ (c .before .before .before .before .before .before .before .before .before .before .before .pre .1 .0 .is-next) _ (c .before .before .before .before .before .before .before .before .before .filled .ensures)) (better-on (rw (c .before .before .before .before .before .before .before .before .untried .ensures) at (c .before .before .before .before .before .before .before .loop .inv .1 .0)) (owns-meets _ _ _ _ (c .before .before .before .before .before .before .before .before .before .before .before .args .q) _ (c .before .before .before .before .before .before .before .before .before .before .before .pre .1 .0 .is-next) _ (c .before .before .before .before .before .before .before .before .before .filled .ensures) ((rw (c .before .before .before .before .after .ensures) at (c .before .before .before .own-reached .ensures .0)) .better)))) (c .before .ended2 .ensures (c .if3 .taken))
+search-at-returns-3 : (t : ℕ) → search-at-lts.Need-returns-3 (search-at-claims t) (search-at-at t) search-at.Post search-at-Inv-loop search-at-μ-loop
+search-at-returns-3 t c = reach-ended _ _ _ _ (c .before .before .before .before .before .before .before .before .before .before .before .before .before .args .q) _ (better-on (fills-meets _ _ _ _ (c .before .before .before .before .before .before .before .before .before .before .before .before .before .args .q) _ (c .before .before .before .before .before .before .before .before .before .before .before .before .before .pre .1 .0 .is-next) _ (c .before .before .before .before .before .before .before .before .before .filled .ensures)) (better-on (rw (c .before .before .before .before .before .before .before .before .untried .ensures) at (c .before .before .before .before .before .before .before .loop .inv .1 .0)) (owns-meets _ _ _ _ (c .before .before .before .before .before .before .before .before .before .before .before .before .before .args .q) _ (c .before .before .before .before .before .before .before .before .before .before .before .before .before .pre .1 .0 .is-next) _ (c .before .before .before .before .before .before .before .before .before .filled .ensures) ((rw (c .before .before .before .before .after .ensures) at (c .before .before .before .own-reached .ensures .0)) .better)))) (c .before .ended2 .ensures (c .if5 .taken))
 
 search-at-after-requires-2 : (t : ℕ) → search-at-lts.Need-after-requires-2 (search-at-claims t) (search-at-at t) search-at.Post search-at-Inv-loop search-at-μ-loop
 search-at-after-requires-2 t c κs = search needs
 
 search-at-asks-requires : (t : ℕ) → search-at-lts.Need-asks-requires (search-at-claims t) (search-at-at t) search-at.Post search-at-Inv-loop search-at-μ-loop
-search-at-asks-requires t c κs = c .before .before .before .before .before .before .before .before .before .before .before .before .before .pre .1 .0 .ready .room
+search-at-asks-requires t c κs = c .before .before .before .before .before .before .before .before .before .before .before .before .before .before .before .pre .1 .0 .ready .room
 
 search-at-and-requires : (t : ℕ) → search-at-lts.Need-and-requires (search-at-claims t) (search-at-at t) search-at.Post search-at-Inv-loop search-at-μ-loop
 search-at-and-requires t c κs = search needs
 
-search-at-returns-3 : (t : ℕ) → search-at-lts.Need-returns-3 (search-at-claims t) (search-at-at t) search-at.Post search-at-Inv-loop search-at-μ-loop
-search-at-returns-3 t c = reach-all _ _ _ _ (c .before .before .before .before .before .before .before .before .before .before .before .before .before .before .before .args .q) _ (c .before .before .before .before .before .before .before .before .before .before .before .before .before .before .before .pre .1 .0 .is-next) _ (c .before .before .before .before .before .before .before .before .before .before .before .before .before .filled .ensures) (c .before .before .before .before .before .before .before .before .before .before .before .before .before .before .before .pre .1 .1) (c .before .before .before .before .before .before .before .before .before .before .before .before .before .before .before .pre .1 .0 .ready .room) _ _ (rw (c .before .before .before .before .before .before .before .before .before .before .before .before .untried .ensures) at (c .before .before .before .before .before .before .before .before .before .before .before .loop .inv .1 .0)) (rw (c .before .before .before .before .before .before .before .before .before .before .before .before .untried .ensures) at (c .before .before .before .before .before .before .before .before .before .before .before .loop .inv .1 .1 .0)) (c .before .before .before .before .before .before .before .before .before .before .before .loop .inv .0) (c .before .before .before .before .before .before .before .before .before .before .loop-test .left) _ (rw (c .before .before .before .before .before .before .before .before .after .ensures) at (c .before .before .before .before .before .before .before .own-reached .ensures .0)) (c .before .before .before .before .before .before .before .own-reached .ensures .1) _ (c .before .before .after2 .ensures) _ (c .before .asks .ensures) _ (c .and .ensures)
+search-at-returns-4 : (t : ℕ) → search-at-lts.Need-returns-4 (search-at-claims t) (search-at-at t) search-at.Post search-at-Inv-loop search-at-μ-loop
+search-at-returns-4 t c = reach-all _ _ _ _ (c .before .before .before .before .before .before .before .before .before .before .before .before .before .before .before .before .before .args .q) _ (c .before .before .before .before .before .before .before .before .before .before .before .before .before .before .before .before .before .pre .1 .0 .is-next) _ (c .before .before .before .before .before .before .before .before .before .before .before .before .before .filled .ensures) (c .before .before .before .before .before .before .before .before .before .before .before .before .before .before .before .before .before .pre .1 .1) (c .before .before .before .before .before .before .before .before .before .before .before .before .before .before .before .before .before .pre .1 .0 .ready .room) _ _ (rw (c .before .before .before .before .before .before .before .before .before .before .before .before .untried .ensures) at (c .before .before .before .before .before .before .before .before .before .before .before .loop .inv .1 .0)) (rw (c .before .before .before .before .before .before .before .before .before .before .before .before .untried .ensures) at (c .before .before .before .before .before .before .before .before .before .before .before .loop .inv .1 .1 .0)) (c .before .before .before .before .before .before .before .before .before .before .before .loop .inv .0) (c .before .before .before .before .before .before .before .before .before .before .loop-test .left) _ (rw (c .before .before .before .before .before .before .before .before .after .ensures) at (c .before .before .before .before .before .before .before .own-reached .ensures .0)) (c .before .before .before .before .before .before .before .own-reached .ensures .1) _ (c .before .before .after2 .ensures) _ (c .before .asks .ensures) _ (c .and .ensures)
 
 search-runs-kept-requires : (t : ℕ) → search-runs-lts.Need-kept-requires (search-runs-claims t) (search-runs-at t) search-runs.Post
 search-runs-kept-requires t c κs = search needs
@@ -602,11 +581,11 @@ search-runs-halts-requires t c κs = (c .before .before .before .before .before 
 search-runs-instr-at-requires : (t : ℕ) → search-runs-lts.Need-instr-at-requires (search-runs-claims t) (search-runs-at t) search-runs.Post
 search-runs-instr-at-requires t c κs = let h = c .before .before .before .before .before .before .before .pre .1 .code-ok .short in let l = c .before .before .if2 .left in (omega arith, l)
 
-search-runs-halted-requires : (t : ℕ) → search-runs-lts.Need-halted-requires (search-runs-claims t) (search-runs-at t) search-runs.Post
-search-runs-halted-requires t c κs = (omega (arith, c .before .before .before .before .before .before .before .before .pre .0), (record { ready = c .before .before .before .before .before .before .before .before .pre .1; is-next = c .instr-at .ensures }, record { halting = c .before .before .halts .ensures _ refl .0 (c .before .if3 .taken) _ (c .instr-at .ensures); outstanding = c .before .before .before .before .before .before .before .kept .ensures .1 (c .before .before .before .before .before .before .if1 .left) }))
+search-runs-search-at-requires : (t : ℕ) → search-runs-lts.Need-search-at-requires (search-runs-claims t) (search-runs-at t) search-runs.Post
+search-runs-search-at-requires t c κs = (omega (arith, c .before .before .before .before .before .before .before .before .pre .0), (record { ready = c .before .before .before .before .before .before .before .before .pre .1; is-next = c .instr-at .ensures }, record { halting = c .before .before .halts .ensures _ refl .0 (c .before .if3 .taken) _ (c .instr-at .ensures); outstanding = c .before .before .before .before .before .before .before .kept .ensures .1 (c .before .before .before .before .before .before .if1 .left) }))
 
 search-runs-returns-3 : (t : ℕ) → search-runs-lts.Need-returns-3 (search-runs-claims t) (search-runs-at t) search-runs.Post
-search-runs-returns-3 t c = c .halted .ensures
+search-runs-returns-3 t c = c .search-at .ensures
 
 search-runs-straight-requires : (t : ℕ) → search-runs-lts.Need-straight-requires (search-runs-claims t) (search-runs-at t) search-runs.Post
 search-runs-straight-requires t c κs = c .before .before .before .before .before .before .before .before .pre .1 .code-ok
@@ -680,9 +659,9 @@ try-at-noted-requires-2 t c κs = c .before .before .before .before .before .bef
 try-at-returns-4 : (t : ℕ) → try-at-lts.Need-returns-4 (try-at-claims t) (try-at-at t) try-at.Post
 try-at-returns-4 t c = went-on _ _ _ _ _ _ _ _ (c .before .before .before .before .before .before .before .before .before .before .pre .1 .1 .1) _ (ruled-done _ _ _ (c .before .before .before .before .before .before .before .before .before .execute .ensures) (c .before .before .before .before .before .before .before .enum-told .given .1)) _ (rw (c .before .before .before .before .before .before .after .ensures) at (c .before .search-runs2 .ensures)) _ (c .noted2 .ensures)
 
-pub +blind+both-ways+filled+halted+keeps+own-reached+search-at+search-runs+try-at-spec : {M : Type 1} → statement M
-+blind+both-ways+filled+halted+keeps+own-reached+search-at+search-runs+try-at-spec =
-    close μ-blind μ-both-ways μ-filled μ-halted μ-keeps μ-own-reached μ-search-at μ-search-runs μ-try-at (λ t. blind-lts.spec (blind-claims t) (blind-at t)
+pub +blind+both-ways+filled+keeps+own-reached+search-at+search-runs+try-at-spec : {M : Type 1} → statement M
++blind+both-ways+filled+keeps+own-reached+search-at+search-runs+try-at-spec =
+    close μ-blind μ-both-ways μ-filled μ-keeps μ-own-reached μ-search-at μ-search-runs μ-try-at (λ t. blind-lts.spec (blind-claims t) (blind-at t)
     blind.Post
     (blind-steers-requires t)
     (blind-returns t)
@@ -752,12 +731,6 @@ pub +blind+both-ways+filled+halted+keeps+own-reached+search-at+search-runs+try-a
     (filled-returns-8 t)
     (filled-returns-9 t)
     (filled-returns-10 t))
-    (λ t. halted-lts.spec (halted-claims t) (halted-at t)
-    halted.Post
-    (halted-blind-requires t)
-    (halted-returns t)
-    (halted-search-at-requires t)
-    (halted-returns-2 t))
     (λ t. keeps-lts.spec (keeps-claims t) (keeps-at t)
     keeps.Post
     (keeps-execute-requires t)
@@ -795,6 +768,8 @@ pub +blind+both-ways+filled+halted+keeps+own-reached+search-at+search-runs+try-a
     search-at.Post
     search-at-Inv-loop
     search-at-μ-loop
+    (search-at-blind-requires t)
+    (search-at-returns t)
     (search-at-earliest-requires t)
     (search-at-filled-requires t)
     (search-at-untried-requires t)
@@ -802,7 +777,7 @@ pub +blind+both-ways+filled+halted+keeps+own-reached+search-at+search-runs+try-a
     (search-at-hopeless-requires t)
     (search-at-try-at-requires t)
     (search-at-ended-requires t)
-    (search-at-returns t)
+    (search-at-returns-2 t)
     (search-at-following-requires t)
     (search-at-loop-less t)
     (search-at-loop-again t)
@@ -810,11 +785,11 @@ pub +blind+both-ways+filled+halted+keeps+own-reached+search-at+search-runs+try-a
     (search-at-after-requires t)
     (search-at-own-reached-requires t)
     (search-at-ended-requires-2 t)
-    (search-at-returns-2 t)
+    (search-at-returns-3 t)
     (search-at-after-requires-2 t)
     (search-at-asks-requires t)
     (search-at-and-requires t)
-    (search-at-returns-3 t))
+    (search-at-returns-4 t))
     (λ t. search-runs-lts.spec (search-runs-claims t) (search-runs-at t)
     search-runs.Post
     (search-runs-kept-requires t)
@@ -823,7 +798,7 @@ pub +blind+both-ways+filled+halted+keeps+own-reached+search-at+search-runs+try-a
     (search-runs-returns-2 t)
     (search-runs-halts-requires t)
     (search-runs-instr-at-requires t)
-    (search-runs-halted-requires t)
+    (search-runs-search-at-requires t)
     (search-runs-returns-3 t)
     (search-runs-straight-requires t)
     (search-runs-both-ways-requires t)
