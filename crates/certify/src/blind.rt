@@ -1,15 +1,18 @@
 // Blind loads: they read 0 with no view of their own, and leave coherence as it is. No load leaves less, so that a failure after a blind load
 // tells of every load, wherever it reads, if what is read does not count.
 ghost use mathlib.Core.Path.{_≡_};
-ghost use Prim.Native.Nat.{_+_, _<_};
+ghost use Prim.Native.Nat.{_+_, _≤_, _<_};
 ghost use Rattle.certify.specs.Blind.{unread};
 use crate::idle::lowered;
 use crate::reach::Reached;
+use live::steering::steers;
 use loads::load_done;
 use loads::load_pre;
 use machine::Memory;
 use machine::Thread;
 use rules::operands::view_of_both;
+use source::Code;
+use source::Instr;
 use source::LoadMode;
 use source::Operand;
 
@@ -26,4 +29,23 @@ pub fn unread(k: LoadMode, r: u8, a: Operand, b: Operand, m: Memory, s: Thread) 
 {
     let va = view_of_both(s, a, b);
     lowered(load_done(k, r, m, 0, 0, va, load_pre(k, va, s.views), s), s)
+}
+
+// Whether a blind load is worth the question: it is where the address comes of what was read, and what is read comes into no store. Of other
+// loads it mostly counts what they read, and the search would be in vain.
+pub fn worth_asking(x: Instr, c: Code, s: Thread) -> bool
+    requires { ⌜ (c .count ≤ 16) × (s .position < 16) ⌝ }
+{
+    match x {
+        Instr::Load(_, _, a, b) => {
+            if view_of_both(s, a, b) == 0 {
+                return false;
+            }
+            steers(c, s.position)
+        }
+        Instr::Store(_, _, _) => false,
+        Instr::Compute(_, _, _, _) => false,
+        Instr::Branch(_, _, _) => false,
+        Instr::Fence(_) => false,
+    }
 }

@@ -12,6 +12,7 @@ use crate::Sought;
 use crate::asks::asks;
 use crate::blind::Blind;
 use crate::blind::unread;
+use crate::blind::worth_asking;
 use crate::idle::idle;
 use crate::idle::lowered;
 use crate::own_message;
@@ -27,7 +28,6 @@ use crate::window::earliest;
 use crate::window::following;
 use cares::Cares;
 use cares::barring;
-use live::steering::steers;
 use machine::Memory;
 use machine::Message;
 use machine::RuleAnswer;
@@ -142,8 +142,7 @@ pub fn search_runs(c: Code, i: u8, m: Memory, s: Thread, q: Sought) -> Reached
     }
 }
 
-// Whether a load comes to nothing whatever it reads: then neither what it reads counts nor its address. Worth the question is a load that
-// steers; of others it mostly counts what they read, and the search would be in vain.
+// Whether a load comes to nothing whatever it reads: then neither what it reads counts nor its address.
 fn blind(c: Code, i: u8, m: Memory, s: Thread, x: Instr, q: Sought) -> Blind
     requires { ⌜ Trying c m s x × Unkept s x q ⌝ }
     ensures { λ r. ⌜ (r .fails ≡ true → Found (q .from) (q .met) (λ y k. Meets c i m y (q .hole) k) s (r .found)) ⌝ }
@@ -157,7 +156,7 @@ fn blind(c: Code, i: u8, m: Memory, s: Thread, x: Instr, q: Sought) -> Blind
         fails: false,
         found: nothing,
     };
-    if !steers(c, s.position) {
+    if !worth_asking(x, c, s) {
         return unknown;
     }
     match x {

@@ -4,17 +4,12 @@ ghost use Prim.Native.Nat.{_≤_, _<_};
 use source::Code;
 use source::Instruction;
 
+// All registers, and more: something comes into a store, or decides on one.
+const ALL: u16 = 65535;
+
 // The set of register r alone.
 fn only(r: u8) -> u16 {
     1u16 << r % 16
-}
-
-// Instruction i is a compute or a load into a register of the set.
-fn writes(i: Instruction, set: u16) -> bool {
-    if 1 < i.op {
-        return false;
-    }
-    (set >> i.r % 16) % 2 == 1
 }
 
 // The register of an operand, if it has one.
@@ -25,90 +20,93 @@ fn of_operand(k: u8, n: u8) -> u16 {
     only(n)
 }
 
-// The registers that instruction i reads.
-fn read_by(i: Instruction) -> u16 {
-    of_operand(i.k1, i.n1) | of_operand(i.k2, i.n2)
+// Instruction i reads a register of the set.
+fn reads(i: Instruction, set: u16) -> bool {
+    (of_operand(i.k1, i.n1) | of_operand(i.k2, i.n2)) & set != 0
 }
 
-// Of the m instructions from position n on, one stores or writes a register of the set.
-fn among(c: Code, n: u8, m: u8, set: u16) -> bool
-    requires { ⌜ c .count ≤ 16 ⌝ }
-{
-    let mut k = n;
-    while k < c.count {
-        if m <= k - n {
-            return false;
-        }
-        let i = c.instructions[k as usize];
-        if (i.op == 2) | writes(i, set) {
-            return true;
-        }
-        k += 1;
+// The set with register r, if what is written there comes of the set; without it, if not.
+fn after_write(set: u16, r: u8, of_set: bool) -> u16 {
+    let with = set | only(r);
+    if of_set {
+        return with;
     }
-    false
+    with ^ only(r)
 }
 
-// What instruction i at position k reads comes into a store, or decides on one: it stores; it writes a register of the set, which come into
-// stores later; or it is a branch on a constant, or over an instruction that stores or writes one of those that ever come into stores.
-fn feeds(c: Code, k: u8, i: Instruction, set: u16, ever: u16) -> bool
-    requires { ⌜ (c .count ≤ 16) × (k < 16) ⌝ }
-{
-    if i.op == 3 {
-        return (i.k1 == 0) | (i.k2 == 0) | among(c, k + 1, i.m, ever);
+// How many instructions stand between the two ways of instruction i, if it is a branch that looks at the set.
+fn branches(i: Instruction, set: u16) -> u8 {
+    if i.op != 3 {
+        return 0;
     }
-    (i.op == 2) | writes(i, set)
-}
-
-// The set before instruction i, which feeds stores.
-fn fed_before(i: Instruction, set: u16) -> u16 {
-    if writes(i, set) {
-        return set ^ only(i.r) | read_by(i);
+    if !reads(i, set) {
+        return 0;
     }
-    set | read_by(i)
+    i.m
 }
 
-// The registers that come into stores from position n on.
-fn fed(c: Code, n: u8) -> u16
+// The registers that the m instructions from position n on write; ALL, if one of them stores or is a branch.
+fn passed_over(c: Code, n: u8, m: u8) -> u16
     requires { ⌜ c .count ≤ 16 ⌝ }
 {
     let mut set = 0u16;
-    let mut ever = 0u16;
-    let mut k = c.count;
-    while n < k {
-        k -= 1;
-        let i = c.instructions[k as usize];
-        if feeds(c, k, i, set, ever) {
-            set = fed_before(i, set);
-            ever = ever | set;
+    let mut k = n;
+    while k < c.count {
+        if m <= k - n {
+            return set;
         }
+        let i = c.instructions[k as usize];
+        if (i.op == 2) | (i.op == 3) {
+            return ALL;
+        }
+        if i.op < 2 {
+            set = set | only(i.r);
+        }
+        k += 1;
     }
     set
 }
 
-// An instruction before position n writes a register of the set.
-fn written(c: Code, n: u8, set: u16) -> bool
-    requires { ⌜ n ≤ 16 ⌝ }
+// The registers that hold what comes of those of the set, after instruction i at position k; ALL, if it comes into a store or decides on one.
+fn followed(c: Code, k: u8, i: Instruction, set: u16) -> u16
+    requires { ⌜ (c .count ≤ 16) × (k < 16) ⌝ }
 {
-    let mut k = 0u8;
-    while k < n {
-        if writes(c.instructions[k as usize], set) {
-            return true;
-        }
-        k += 1;
+    let of_set = reads(i, set);
+    if i.op < 2 {
+        return after_write(set, i.r, of_set);
     }
-    false
+    if !of_set {
+        return set;
+    }
+    if (i.op == 2) | (i.k1 == 0) | (i.k2 == 0) {
+        return ALL;
+    }
+    set | passed_over(c, k + 1, i.m)
 }
 
-// The instruction at position n is a load that steers, and an instruction before it has a say in its address.
+// The instruction at position n is a load that steers. What it reads is followed to the end, or until nothing holds it any more; over a branch
+// that looks at it, both ways at once.
 pub fn steers(c: Code, n: u8) -> bool
     requires { ⌜ (c .count ≤ 16) × (n < 16) ⌝ }
 {
-    let i = c.instructions[n as usize];
-    if i.op != 1 {
+    let load = c.instructions[n as usize];
+    if load.op != 1 {
         return false;
     }
-    if !written(c, n, read_by(i)) {
-        return false;
+    let mut set = only(load.r);
+    let mut k = n + 1;
+    while k < c.count {
+        let i = c.instructions[k as usize];
+        let over = branches(i, set);
+        set = followed(c, k, i, set);
+        if (set == 0) | (set == ALL) {
+            return set == 0;
+        }
+        k += 1;
+        if c.count - k <= over {
+            return true;
+        }
+        k += over;
     }
-    !writes(i, fed(c, n + 1))
+    true
 }

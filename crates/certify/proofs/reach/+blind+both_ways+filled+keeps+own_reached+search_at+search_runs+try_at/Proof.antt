@@ -67,6 +67,7 @@ use Rattle.certify.proofs.Sought.certified.Reads as certified-reads
 use Rattle.certify.proofs.Sought.seeks.Reads as seeks-reads
 use Rattle.certify.proofs.asks.asks.Reads as asks-reads
 use Rattle.certify.proofs.blind.unread.Reads as unread-reads
+use Rattle.certify.proofs.blind.worth_asking.Reads as worth-asking-reads
 use Rattle.certify.proofs.idle.idle.Reads as idle-reads
 use Rattle.certify.proofs.idle.lowered.Reads as lowered-reads
 use Rattle.certify.proofs.own_message.Reads as own-message-reads
@@ -84,7 +85,6 @@ use Rattle.certify.proofs.straight.halts.Reads as halts-reads
 use Rattle.certify.proofs.straight.straight.Reads as straight-reads
 use Rattle.certify.proofs.window.earliest.Reads as earliest-reads
 use Rattle.certify.proofs.window.following.Reads as following-reads
-use Rattle.live.proofs.steering.steers.Reads as steers-reads
 use Rattle.machine.proofs.Memory.append.Reads as append-reads
 use Rattle.machine.proofs.promises.has.Reads as has-reads
 use Rattle.rules.proofs.execute.Reads as execute-reads
@@ -178,7 +178,7 @@ abbrev try-at-below : ℕ → In 0 try-at-kinds.ps
 try-at-below t = and 0 try-at-kinds.ps (falls 0 try-at-kinds.ps _<_ μ-try-at t) try-at.Pre
 
 abbrev blind-claims : ℕ → blind-lts.Claims
-blind-claims t = (steers-reads.Asked, steers-reads.Learnt, unread-reads.Asked, unread-reads.Learnt, search-runs-below t, search-runs.Post, is-reads.Asked, is-reads.Learnt, of-register-reads.Asked, of-register-reads.Learnt, forgetting-reads.Asked, forgetting-reads.Learnt)
+blind-claims t = (worth-asking-reads.Asked, worth-asking-reads.Learnt, unread-reads.Asked, unread-reads.Learnt, search-runs-below t, search-runs.Post, is-reads.Asked, is-reads.Learnt, of-register-reads.Asked, of-register-reads.Learnt, forgetting-reads.Asked, forgetting-reads.Learnt)
 
 abbrev both-ways-claims : ℕ → both-ways-lts.Claims
 both-ways-claims t = (search-runs-below t, search-runs.Post, ended-reads.Asked, ended-reads.Learnt, held-reads.Asked, held-reads.Learnt, of-register-reads.Asked, of-register-reads.Learnt, before-straight-reads.Asked, before-straight-reads.Learnt, at-position-reads.Asked, at-position-reads.Learnt, after-reads.Asked, after-reads.Learnt, is-reads.Asked, is-reads.Learnt, and-reads.Asked, and-reads.Learnt)
@@ -201,8 +201,8 @@ search-runs-claims t = (kept-reads.Asked, kept-reads.Learnt, emptied-reads.Asked
 abbrev try-at-claims : ℕ → try-at-lts.Claims
 try-at-claims t = (execute-reads.Asked, execute-reads.Learnt, after-reads.Asked, after-reads.Learnt, kept-reads.Asked, kept-reads.Learnt, emptied-reads.Asked, emptied-reads.Learnt, idle-reads.Asked, idle-reads.Learnt, lowered-reads.Asked, lowered-reads.Learnt, search-runs-below t, search-runs.Post, noted-reads.Asked, noted-reads.Learnt)
 
-blind-steers-requires : (t : ℕ) → blind-lts.Need-steers-requires (blind-claims t) (blind-at t) blind.Post
-blind-steers-requires t c κs = let w = c .before .pre .1 .0 in let l = there _ _ _ (w .is-next) .0 in (w .ready .code-ok .short, let h = w .ready .code-ok .short in omega arith)
+blind-worth-asking-requires : (t : ℕ) → blind-lts.Need-worth-asking-requires (blind-claims t) (blind-at t) blind.Post
+blind-worth-asking-requires t c κs = let w = c .before .pre .1 .0 in let l = there _ _ _ (w .is-next) .0 in (w .ready .code-ok .short, let h = w .ready .code-ok .short in omega arith)
 
 blind-returns : (t : ℕ) → blind-lts.Need-returns (blind-claims t) (blind-at t) blind.Post
 blind-returns t c = λ e. absurd (subst T (sym e) tt)
@@ -663,7 +663,7 @@ pub +blind+both-ways+filled+keeps+own-reached+search-at+search-runs+try-at-spec 
 +blind+both-ways+filled+keeps+own-reached+search-at+search-runs+try-at-spec =
     close μ-blind μ-both-ways μ-filled μ-keeps μ-own-reached μ-search-at μ-search-runs μ-try-at (λ t. blind-lts.spec (blind-claims t) (blind-at t)
     blind.Post
-    (blind-steers-requires t)
+    (blind-worth-asking-requires t)
     (blind-returns t)
     (blind-enum-known-x t)
     (blind-unread-requires t)

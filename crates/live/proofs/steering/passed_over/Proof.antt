@@ -1,16 +1,16 @@
--- `live::steering::among` meets its contract.
+-- `live::steering::passed_over` meets its contract.
 -- Assumes nothing.
 use Prim.Native.Nat.{_-_, _≤_}
 use native.Mathlib.Omega.{arith}
 use borrow.Author.Needs.{needs}
-use Rattle.live.proofs.steering.among.Statement.{statement}
-use Rattle.live.proofs.steering.among.Tie as tie
+use Rattle.live.proofs.steering.passed_over.Statement.{statement}
+use Rattle.live.proofs.steering.passed_over.Tie as tie
 
 abbrev Inv-loop : tie.InvT-loop
-Inv-loop n m set c k₀ k = n ≤ k
+Inv-loop n m c set₀ k₀ set k = n ≤ k
 
 abbrev μ-loop : tie.MeasureT-loop
-μ-loop n m set c k₀ k = c .count - k
+μ-loop n m c set₀ k₀ set k = c .count - k
 
 loop-holds : tie.Need-loop-holds Inv-loop μ-loop
 loop-holds c = omega arith
@@ -30,26 +30,26 @@ mul-i c = let h = c .before .before .before .pre in let l = c .before .loop-test
 element-copy-out-i : tie.Need-element-copy-out-i Inv-loop μ-loop
 element-copy-out-i c = let h = c .before .before .before .pre in let l = c .before .loop-test .taken in omega arith
 
-writes-requires : tie.Need-writes-requires Inv-loop μ-loop
-writes-requires c κs = tt
-
 returns-2 : tie.Need-returns-2 Inv-loop μ-loop
 returns-2 c = tt
 
+only-requires : tie.Need-only-requires Inv-loop μ-loop
+only-requires c κs = tt
+
 add-k : tie.Need-add-k Inv-loop μ-loop
-add-k c = let h = c .before .before .before .before .before .before .before .pre in let l = c .before .before .before .before .before .loop-test .taken in omega arith
+add-k c = let h = c .before .before .before .before .before .before .before .before .before .pre in let l = c .before .before .before .before .before .before .before .loop-test .taken in omega arith
 
 loop-less : tie.Need-loop-less Inv-loop μ-loop
-loop-less c = let l = c .before .before .before .before .before .loop-test .taken in omega arith
+loop-less c = let l = c .before .before .before .before .before .before .before .loop-test .taken in omega arith
 
 loop-again : tie.Need-loop-again Inv-loop μ-loop
-loop-again c = let i = c .before .before .before .before .before .before .loop .inv in omega arith
+loop-again c = let i = c .before .before .before .before .before .before .before .before .loop .inv in omega arith
 
 returns-3 : tie.Need-returns-3 Inv-loop μ-loop
 returns-3 c = tt
 
-pub among-spec : {M : Type 1} → statement M
-among-spec =
+pub passed-over-spec : {M : Type 1} → statement M
+passed-over-spec =
     tie.close
     (tie.spec
     Inv-loop
@@ -60,8 +60,8 @@ among-spec =
     cast-i
     mul-i
     element-copy-out-i
-    writes-requires
     returns-2
+    only-requires
     add-k
     loop-less
     loop-again

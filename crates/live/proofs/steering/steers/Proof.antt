@@ -1,0 +1,96 @@
+-- `live::steering::steers` meets its contract.
+-- Assumes nothing.
+use Prim.Native.Nat.{_-_, _<_}
+use native.Mathlib.Omega.{arith}
+use borrow.Author.Needs.{needs}
+use Rattle.live.proofs.steering.steers.Statement.{statement}
+use Rattle.live.proofs.steering.steers.Tie as tie
+
+abbrev Inv-loop : tie.InvT-loop
+Inv-loop n c set₀ k₀ set k = n < k
+
+abbrev μ-loop : tie.MeasureT-loop
+μ-loop n c set₀ k₀ set k = c .count - k
+
+mul-load : tie.Need-mul-load Inv-loop μ-loop
+mul-load c = let h = c .pre in omega arith
+
+element-copy-out-load : tie.Need-element-copy-out-load Inv-loop μ-loop
+element-copy-out-load c = let h = c .pre in omega arith
+
+returns : tie.Need-returns Inv-loop μ-loop
+returns c = tt
+
+only-requires : tie.Need-only-requires Inv-loop μ-loop
+only-requires c κs = tt
+
+add-k : tie.Need-add-k Inv-loop μ-loop
+add-k c = let h = c .before .before .before .before .pre in omega arith
+
+loop-holds : tie.Need-loop-holds Inv-loop μ-loop
+loop-holds c = omega arith
+
+cast-i : tie.Need-cast-i Inv-loop μ-loop
+cast-i c = search needs
+
+mul-i : tie.Need-mul-i Inv-loop μ-loop
+mul-i c = let h = c .before .before .before .before .before .before .pre in let l = c .loop-test .taken in omega arith
+
+element-copy-out-i : tie.Need-element-copy-out-i Inv-loop μ-loop
+element-copy-out-i c = let h = c .before .before .before .before .before .before .pre in let l = c .loop-test .taken in omega arith
+
+branches-requires : tie.Need-branches-requires Inv-loop μ-loop
+branches-requires c κs = tt
+
+followed-requires : tie.Need-followed-requires Inv-loop μ-loop
+followed-requires c κs = let h = c .before .before .before .before .before .before .before .before .pre in let l = c .before .before .loop-test .taken in (h .0, omega arith)
+
+returns-2 : tie.Need-returns-2 Inv-loop μ-loop
+returns-2 c = tt
+
+add-k-2 : tie.Need-add-k-2 Inv-loop μ-loop
+add-k-2 c = let h = c .before .before .before .before .before .before .before .before .before .before .pre in let l = c .before .before .before .before .loop-test .taken in omega arith
+
+sub-if3 : tie.Need-sub-if3 Inv-loop μ-loop
+sub-if3 c = let l = c .before .before .before .before .loop-test .taken in omega arith
+
+returns-3 : tie.Need-returns-3 Inv-loop μ-loop
+returns-3 c = tt
+
+add-k-3 : tie.Need-add-k-3 Inv-loop μ-loop
+add-k-3 c = let h = c .before .before .before .before .before .before .before .before .before .before .before .pre in let l = c .if3 .left in let z = c .before .before .before .before .before .loop-test .taken in omega arith
+
+loop-less : tie.Need-loop-less Inv-loop μ-loop
+loop-less c = let l = c .before .before .before .before .before .loop-test .taken in omega arith
+
+loop-again : tie.Need-loop-again Inv-loop μ-loop
+loop-again c = let i = c .before .before .before .before .before .before .loop .inv in omega arith
+
+returns-4 : tie.Need-returns-4 Inv-loop μ-loop
+returns-4 c = tt
+
+pub steers-spec : {M : Type 1} → statement M
+steers-spec =
+    tie.close
+    (tie.spec
+    Inv-loop
+    μ-loop
+    mul-load
+    element-copy-out-load
+    returns
+    only-requires
+    add-k
+    loop-holds
+    cast-i
+    mul-i
+    element-copy-out-i
+    branches-requires
+    followed-requires
+    returns-2
+    add-k-2
+    sub-if3
+    returns-3
+    add-k-3
+    loop-less
+    loop-again
+    returns-4)
