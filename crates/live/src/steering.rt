@@ -25,13 +25,17 @@ fn reads(i: Instruction, set: u16) -> bool {
     (of_operand(i.k1, i.n1) | of_operand(i.k2, i.n2)) & set != 0
 }
 
-// The set with register r, if what is written there comes of the set; without it, if not.
-fn after_write(set: u16, r: u8, of_set: bool) -> u16 {
+// The set after an instruction that writes register r: with it, if what is written comes of the set; without it, if not, and if every way leads
+// through the instruction.
+fn after_write(set: u16, r: u8, of_set: bool, certain: bool) -> u16 {
     let with = set | only(r);
     if of_set {
         return with;
     }
-    with ^ only(r)
+    if certain {
+        return with ^ only(r);
+    }
+    set
 }
 
 // How many instructions stand between the two ways of instruction i, if it is a branch that looks at the set.
@@ -67,13 +71,14 @@ fn passed_over(c: Code, n: u8, m: u8) -> u16
     set
 }
 
-// The registers that hold what comes of those of the set, after instruction i at position k; ALL, if it comes into a store or decides on one.
-fn followed(c: Code, k: u8, i: Instruction, set: u16) -> u16
+// The registers that hold what comes of those of the set, after instruction i at position k, through which every way leads if that is certain;
+// ALL, if it comes into a store or decides on one.
+fn followed(c: Code, k: u8, i: Instruction, set: u16, certain: bool) -> u16
     requires { ⌜ (c .count ≤ 16) × (k < 16) ⌝ }
 {
     let of_set = reads(i, set);
     if i.op < 2 {
-        return after_write(set, i.r, of_set);
+        return after_write(set, i.r, of_set, certain);
     }
     if !of_set {
         return set;
@@ -84,8 +89,13 @@ fn followed(c: Code, k: u8, i: Instruction, set: u16) -> u16
     set | passed_over(c, k + 1, i.m)
 }
 
+// The later of two positions.
+fn later(a: u16, b: u16) -> u16 {
+    if a < b { b } else { a }
+}
+
 // The instruction at position n is a load that steers. What it reads is followed to the end, or until nothing holds it any more; over a branch
-// that looks at it, both ways at once.
+// that looks at it, both ways at once. From position `joined` on, all ways have come together again.
 pub fn steers(c: Code, n: u8) -> bool
     requires { ⌜ (c .count ≤ 16) × (n < 16) ⌝ }
 {
@@ -94,11 +104,15 @@ pub fn steers(c: Code, n: u8) -> bool
         return false;
     }
     let mut set = only(load.r);
+    let mut joined = 0u16;
     let mut k = n + 1;
     while k < c.count {
         let i = c.instructions[k as usize];
         let over = branches(i, set);
-        set = followed(c, k, i, set);
+        set = followed(c, k, i, set, joined <= k as u16);
+        if i.op == 3 {
+            joined = later(joined, k as u16 + 1 + i.m as u16);
+        }
         if (set == 0) | (set == ALL) {
             return set == 0;
         }

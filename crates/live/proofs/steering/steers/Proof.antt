@@ -7,10 +7,10 @@ use Rattle.live.proofs.steering.steers.Statement.{statement}
 use Rattle.live.proofs.steering.steers.Tie as tie
 
 abbrev Inv-loop : tie.InvT-loop
-Inv-loop n c set₀ k₀ set k = n < k
+Inv-loop n c set₀ joined₀ k₀ set joined k = n < k
 
 abbrev μ-loop : tie.MeasureT-loop
-μ-loop n c set₀ k₀ set k = c .count - k
+μ-loop n c set₀ joined₀ k₀ set joined k = c .count - k
 
 mul-load : tie.Need-mul-load Inv-loop μ-loop
 mul-load c = let h = c .pre in omega arith
@@ -42,29 +42,47 @@ element-copy-out-i c = let h = c .before .before .before .before .before .before
 branches-requires : tie.Need-branches-requires Inv-loop μ-loop
 branches-requires c κs = tt
 
+cast-followed : tie.Need-cast-followed Inv-loop μ-loop
+cast-followed c = let h = c .before .before .before .before .before .before .before .before .pre in let l = c .before .before .loop-test .taken in omega arith
+
 followed-requires : tie.Need-followed-requires Inv-loop μ-loop
 followed-requires c κs = let h = c .before .before .before .before .before .before .before .before .pre in let l = c .before .before .loop-test .taken in (h .0, omega arith)
+
+cast-later : tie.Need-cast-later Inv-loop μ-loop
+cast-later c = let h = c .before .before .before .before .before .before .before .before .before .before .before .pre in let l = c .before .before .before .before .before .loop-test .taken in omega arith
+
+add-later : tie.Need-add-later Inv-loop μ-loop
+add-later c = let h = c .before .before .before .before .before .before .before .before .before .before .before .pre in let l = c .before .before .before .before .before .loop-test .taken in omega arith
+
+cast-later-2 : tie.Need-cast-later-2 Inv-loop μ-loop
+cast-later-2 c = search needs
+
+add-later-2 : tie.Need-add-later-2 Inv-loop μ-loop
+add-later-2 c = let h = c .before .before .before .before .before .before .before .before .before .before .before .before .pre in let l = c .before .before .before .before .before .before .loop-test .taken in omega arith
+
+later-requires : tie.Need-later-requires Inv-loop μ-loop
+later-requires c κs = tt
 
 returns-2 : tie.Need-returns-2 Inv-loop μ-loop
 returns-2 c = tt
 
 add-k-2 : tie.Need-add-k-2 Inv-loop μ-loop
-add-k-2 c = let h = c .before .before .before .before .before .before .before .before .before .before .pre in let l = c .before .before .before .before .loop-test .taken in omega arith
+add-k-2 c = let h = c .before .before .before .before .before .before .before .before .before .before .before .before .pre in let l = c .before .before .before .before .before .before .loop-test .taken in omega arith
 
-sub-if3 : tie.Need-sub-if3 Inv-loop μ-loop
-sub-if3 c = let l = c .before .before .before .before .loop-test .taken in omega arith
+sub-if4 : tie.Need-sub-if4 Inv-loop μ-loop
+sub-if4 c = let l = c .before .before .before .before .before .before .loop-test .taken in omega arith
 
 returns-3 : tie.Need-returns-3 Inv-loop μ-loop
 returns-3 c = tt
 
 add-k-3 : tie.Need-add-k-3 Inv-loop μ-loop
-add-k-3 c = let h = c .before .before .before .before .before .before .before .before .before .before .before .pre in let l = c .if3 .left in let z = c .before .before .before .before .before .loop-test .taken in omega arith
+add-k-3 c = let h = c .before .before .before .before .before .before .before .before .before .before .before .before .before .pre in let z = c .if4 .left in let l = c .before .before .before .before .before .before .before .loop-test .taken in omega arith
 
 loop-less : tie.Need-loop-less Inv-loop μ-loop
-loop-less c = let l = c .before .before .before .before .before .loop-test .taken in omega arith
+loop-less c = let l = c .before .before .before .before .before .before .before .loop-test .taken in omega arith
 
 loop-again : tie.Need-loop-again Inv-loop μ-loop
-loop-again c = let i = c .before .before .before .before .before .before .loop .inv in omega arith
+loop-again c = let i = c .before .before .before .before .before .before .before .before .loop .inv in omega arith
 
 returns-4 : tie.Need-returns-4 Inv-loop μ-loop
 returns-4 c = tt
@@ -85,10 +103,16 @@ steers-spec =
     mul-i
     element-copy-out-i
     branches-requires
+    cast-followed
     followed-requires
+    cast-later
+    add-later
+    cast-later-2
+    add-later-2
+    later-requires
     returns-2
     add-k-2
-    sub-if3
+    sub-if4
     returns-3
     add-k-3
     loop-less
