@@ -217,6 +217,6 @@ module _ (c : Code) (i : ℕ) (m : Memory) (s : Thread) (x : Instr) (t : ℕ) (o
         is-lost = λ lost s' rests rep p.
             let q = onward-inv (certified c i m) (execute x m t s') p in
             let same = rep (o .mode) (o .a) (o .d) (o .is-store) in
-            let after = store-rests m (o .mode) (o .a) (o .d) s s' (rests .under) (same .0) (then .cares .of) (rests .agreeing) t (u .thread) (q .0) (as-store s (u .thread) does) (as-store s' (q .0) (q .1)) in
+            let after = store-rests m (o .mode) (o .a) (o .d) s s' (rests .under) (same .0) (then .cares .of) (rests .agreeing) t m (u .thread) (q .0) (as-store s (u .thread) does) (as-store s' (q .0) (q .1)) in
             found .barren (q .0) after 0 (zero-sought (found .better) (omega arith, omega arith, λ n. omega arith) lost) (certified-meets c i m (q .0) (q .2));
       }

@@ -26,5 +26,6 @@ pub mod Reaching
 pub mod Placing
 pub mod Later
 pub mod Vacant
+pub mod Loadless
 pub mod Idling
 pub mod Forking

@@ -219,7 +219,7 @@ module _ (c : Code) (i : ℕ) (m : Memory) (s : Thread) (x : Instr) (q : Sought)
       pub went-store : z ≡ y → (how : StoreMode) (a d : Operand) → x ≡ Store how a d → (r : Tried) → Noted x t p sub apart r → Went c i m s x q p t r
       went-store e how a d is r n =
           goes-on r n (told .0) (λ s' v rests like o.
-          store-rests m how a d s s' (rests .under) (like .store how a d is .place) (sub .cares .of) (told .2 s s' (rests .agreeing)) t z v (store s z (does ∙ ap next (sym e))) (store s' v o))
+          store-rests m how a d s s' (rests .under) (like .store how a d is .place) (sub .cares .of) (told .2 s s' (rests .agreeing)) t m z v (store s z (does ∙ ap next (sym e))) (store s' v o))
           (λ better how' j' a' b' is' u tried. absurd (load-not-store how' how j' a' a b' d (sym is' ∙ is)))
         where
           told : (r .met ≡ sub .met) × (r .counted ≡ p .counted) × ((v v' : Thread) → Agreeing (r .cares .of) v v' → Agreeing (sub .cares .of) v v')

@@ -3,32 +3,40 @@
 use mathlib.Core.Path.{_≡_, refl, sym, ap, ap₂, subst, _∙_}
 use mathlib.Core.Logic.{_⊎_, ⊎-elim}
 use mathlib.Core.Bool.{Bool, true, not}
+use mathlib.Core.List.{List}
 use mathlib.Core.Option.{none, Option·some-injective}
-use Prim.Native.Nat.{ℕ, _+_, _*_, _≤_, _<_}
+use Prim.Native.Nat.{ℕ, _+_, _*_, _^_, _≤_, _<_}
 use native.Mathlib.Omega.{arith}
 use lib.Count.{ones}
+use lib.Dec.{T}
+use lib.ListN.{length-set}
 use borrow.Author.Tests.{not-true}
 use Rattle.source.specs.Counts.{storesFrom}
 use Rattle.source.proofs.Counts.{stores-fall}
-use Rattle.machine.specs.State.{append}
+use Rattle.machine.specs.State.{append, has}
 use Rattle.machine.specs.Rules.{next, valueOf, address, execute, addPromise}
 use Rattle.machine.specs.Answers.{ruled, storeMessage, ownStore}
 use Rattle.machine.specs.declared.RuleAnswer.the-variants.{Done, Refused}
 use Rattle.machine.specs.declared.Ruled.{Ruled}
 use Rattle.machine.proofs.Cases.{ruled-done, ruled-refused}
+use Rattle.machine.proofs.Memories.{message-stays}
+use Rattle.machine.proofs.Sets.{has-positive, has-time}
 use Rattle.machine.proofs.Effects.{effect, moves}
+use Rattle.live.specs.Loadless.{Loadless}
 use Rattle.cares.specs.Cares.{Agrees, Agreeing, Covers}
 use Rattle.cares.specs.declared.Cares.{Cares}
 use Rattle.cares.proofs.Agreeing.{same-value, same-address}
 use Rattle.certify.specs.Below.{Code, Operand, Constant, OfRegister, StoreMode, Instr, Compute, Load, Store, Branch, Fence, Message, Memory, Thread}
 use Rattle.certify.specs.Certify.{messageOf}
-use Rattle.certify.specs.Sought.{Sought, Reached, Meets, Owns, Found, Appends}
+use Rattle.certify.specs.Asks.{Met, Unmet}
+use Rattle.certify.specs.Sought.{Sought, Reached, Better, Meets, Owns, Found, Appends}
 use Rattle.certify.specs.Under.{Rests}
 use Rattle.certify.proofs.Fit.{no-message, own-effect, own-leaves, comes-fit}
 use Rattle.certify.proofs.Resting.{promise-rests, store-too, store-rests}
 use Rattle.certify.proofs.Numbers.{better-as}
 use Rattle.certify.proofs.Finding.{rests-less, found-none, other}
 use Rattle.certify.proofs.Stores.{aim-fits}
+use Rattle.certify.proofs.Loadless.{Kept, loadless-law}
 
 -- a promise changes no register
 value-promised : (m : Memory) (s : Thread) (a : Operand) → valueOf (addPromise m s) a ≡ valueOf s a
@@ -68,64 +76,101 @@ module _ (c : Code) (i : ℕ) (m : Memory) (s : Thread) (x : Instr) (q : Sought)
       go (Branch how a b) e = no-message-of (Branch how a b) (λ y. refl) e
       go (Fence how) e = no-message-of (Fence how) (λ y. refl) e
 
-  -- the store is noted to rest on its location and data
-  module _ (how : StoreMode) (a d : Operand) (is : x ≡ Store how a d) (few : m .count < 16) (u : Ruled) (e : u ≡ ruled s (ownStore how a d m i s)) (settled : Cares)
-      (near : (v v' : Thread) → Agreeing (settled .of) v v' → Agrees (65536 * 65535) (valueOf v a) (valueOf v' a)) (noted : (v v' : Thread) → Agreeing (settled .of) v v' → Agrees 2 (valueOf v d) (valueOf v' d)) where
+  -- the store has its own message
+  module _ (how : StoreMode) (a d : Operand) (is : x ≡ Store how a d) (few : m .count < 16) (u : Ruled) (e : u ≡ ruled s (ownStore how a d m i s)) where
     w : Message
     w = storeMessage i a d s
 
     m' : Memory
     m' = append m w
 
-    same-place : (s' : Thread) → Rests (settled .of) s s' → address (valueOf s a) ≡ address (valueOf s' a)
-    same-place s' rests = same-address (near s s' (rests .agreeing))
+    its-store : (s' : Thread) (j : ℕ) (o : Owns c i m s' x (q .hole) j) → execute (Store how a d) (append m (o .message)) ((append m (o .message)) .count) (addPromise (append m (o .message)) s') ≡ next (o .after)
+    its-store s' j o = subst (λ (z : Instr). execute z (append m (o .message)) ((append m (o .message)) .count) (addPromise (append m (o .message)) s') ≡ next (o .after)) is (o .does)
 
-    same-data : (s' : Thread) → Rests (settled .of) s s' → valueOf s d ≡ valueOf s' d
-    same-data s' rests = same-value (noted s s' (rests .agreeing))
-
-    promised-place : (s' : Thread) → Rests (settled .of) s s' → address (valueOf (addPromise m' s) a) ≡ address (valueOf (addPromise m' s') a)
-    promised-place s' rests = ap address (value-promised m' s a) ∙ same-place s' rests ∙ sym (ap address (value-promised m' s' a))
-
-    promised-data : (s' : Thread) → Rests (settled .of) s s' → valueOf (addPromise m' s) d ≡ valueOf (addPromise m' s') d
-    promised-data s' rests = value-promised m' s d ∙ same-data s' rests ∙ sym (value-promised m' s' d)
-
-    -- a thread in which is so what it rests on has the same message, and executes the store on the same memory
-    own-same : (s' : Thread) → Rests (settled .of) s s' → (j : ℕ) (o : Owns c i m s' x (q .hole) j)
-        → (o .message ≡ w) × (execute (Store how a d) m' (m' .count) (addPromise m' s') ≡ next (o .after))
-    unfolding w m'
-    own-same s' rests j o =
-        let mine : storeMessage i a d s' ≡ o .message = Option·some-injective _ _ (sym (ap (messageOf i s') is) ∙ o .is-own) in
-        let y : w ≡ o .message = ap₂ (λ (l v : ℕ). record { location = l; value = v; thread = i }) (same-place s' rests) (same-data s' rests) ∙ mine in (
-          sym y,
-          subst (λ (z : Message). execute (Store how a d) (append m z) ((append m z) .count) (addPromise (append m z) s') ≡ next (o .after)) (sym y)
-              (subst (λ (z : Instr). execute z (append m (o .message)) ((append m (o .message)) .count) (addPromise (append m (o .message)) s') ≡ next (o .after)) is (o .does)),
-        )
-
-    pub owns-stuck : (n : ℕ) → u .answer ≡ Refused n → Found (q .from) (q .met) (λ y j. Owns c i m y x (q .hole) j) s (record { met = q .met; cares = settled })
+    -- what the thread comes to after it
+    owns-better : (m₁ : Memory) → m₁ ≡ append m (storeMessage i a d s) → u .answer ≡ Done → {p p' : Met} → Better (q .from) (Meets c i m₁ (u .thread) (q .hole)) p p' → Better (q .from) (λ j. Owns c i m s x (q .hole) j) p p'
     unfolding ownStore w m'
-    owns-stuck n z =
-        found-none (q .from) (q .met) (λ y j. Owns c i m y x (q .hole) j) s settled (λ s' rests j l o.
-        let mine = store-too m' how a d (addPromise m' s) (addPromise m' s') (promise-rests m' rests .under) (promised-place s' rests) (m' .count) (o .after) (promised-data s' rests) (own-same s' rests j o .1) in
-        other (sym (ruled-refused s (ownStore how a d m i s) u n e z) ∙ mine .1))
+    owns-better m₁ me z =
+        better-as (λ j p. record {
+          message = w;
+          after = u .thread;
+          is-own = ap (messageOf i s) is;
+          fewer = few;
+          does = ap (λ (v : Instr). execute v m' (m' .count) (addPromise m' s)) is ∙ ruled-done s (ownStore how a d m i s) u e z;
+          goes-on = subst (λ (y : Memory). Meets c i y (u .thread) (q .hole) j) me p;
+        })
 
-    pub owns-goes : (m₁ : Memory) → m₁ ≡ append m (storeMessage i a d s) → u .answer ≡ Done → (then : Reached) → Found (q .from) (q .met) (λ y j. Meets c i m₁ y (q .hole) j) (u .thread) then
-        → (k' : Cares) → Covers (k' .of) (then .cares .of) → Covers (k' .of) (settled .of)
-        → Found (q .from) (q .met) (λ y j. Owns c i m y x (q .hole) j) s (record { met = then .met; cares = k' })
-    unfolding ownStore w m'
-    owns-goes m₁ me z then found k' more more' =
-        let does = ruled-done s (ownStore how a d m i s) u e z in
-        record {
-          better = better-as (λ j p. record {
-            message = w;
-            after = u .thread;
-            is-own = ap (messageOf i s) is;
-            fewer = few;
-            does = ap (λ (v : Instr). execute v m' (m' .count) (addPromise m' s)) is ∙ does;
-            goes-on = subst (λ (y : Memory). Meets c i y (u .thread) (q .hole) j) me p;
-          }) (found .better);
-          barren = λ s' rests j l o.
-              let settles = rests-less more' rests in
-              let its = own-same s' settles j o in
-              let after = store-rests m' how a d (addPromise m' s) (addPromise m' s') (promise-rests m' settles .under) (promised-place s' settles) (then .cares .of) (rests-less more rests .agreeing) (m' .count) (u .thread) (o .after) does (its .1) in
-              found .barren (o .after) after j l (subst (λ (y : Memory). Meets c i y (o .after) (q .hole) j) (ap (append m) (its .0) ∙ sym me) (o .goes-on));
-        }
+    -- it is noted to rest on its location
+    module _ (placed : Cares) (near : (v v' : Thread) → Agreeing (placed .of) v v' → Agrees (65536 * 65535) (valueOf v a) (valueOf v' a)) where
+      same-place : (s' : Thread) → Rests (placed .of) s s' → address (valueOf s a) ≡ address (valueOf s' a)
+      same-place s' rests = same-address (near s s' (rests .agreeing))
+
+      promised-place : (s' : Thread) → Rests (placed .of) s s' → address (valueOf (addPromise m' s) a) ≡ address (valueOf (addPromise m' s') a)
+      promised-place s' rests = ap address (value-promised m' s a) ∙ same-place s' rests ∙ sym (ap address (value-promised m' s' a))
+
+      -- a thread in which is so what it rests on has, after its own store, what the failure rests on
+      own-after : (s' : Thread) → Rests (placed .of) s s' → u .answer ≡ Done → (K : List ℕ) → Agreeing K s s' → (j : ℕ) (o : Owns c i m s' x (q .hole) j) → Rests K (u .thread) (o .after)
+      unfolding ownStore w m'
+      own-after s' rests z K all j o =
+          store-rests m' how a d (addPromise m' s) (addPromise m' s') (promise-rests m' rests .under) (promised-place s' rests) K all (m' .count) (append m (o .message)) (u .thread) (o .after) (ruled-done s (ownStore how a d m i s) u e z) (its-store s' j o)
+
+      -- where no load stands ahead, the data do not count
+      pub owns-apart : Loadless c (s .position) → s .promises < 2 ^ m .count → (m₁ : Memory) → m₁ ≡ append m (storeMessage i a d s) → u .answer ≡ Done
+          → (then : Reached) → Found (q .from) (q .met) (λ y j. Meets c i m₁ y (q .hole) j) (u .thread) then → (k' : Cares) → Covers (k' .of) (then .cares .of) → Covers (k' .of) (placed .of)
+          → Found (q .from) (q .met) (λ y j. Owns c i m y x (q .hole) j) s (record { met = then .met; cares = k' })
+      unfolding w m'
+      owns-apart loadless within m₁ me z then found k' more more' = record { better = owns-better m₁ me z (found .better); barren = barren }
+        where
+          barren : (s' : Thread) → Rests (k' .of) s s' → (j : ℕ) → Unmet (q .from) (then .met) j → Owns c i m s' x (q .hole) j → ⊥
+          barren s' rests j l o =
+              let h = effect x (append m (o .message)) ((append m (o .message)) .count) (addPromise (append m (o .message)) s') (o .after) (o .does) in
+              let left : (o .after) .promises ≡ s .promises = own-leaves (own-effect i m (o .message) s' (o .is-own) h) ∙ sym (rests .under .same-promises) in
+              let on = moves h in
+              let at = rests .under .same-position in
+              let kept : Kept m' (append m (o .message)) ((o .after) .promises) = record {
+                same-count = refl;
+                same-length = length-set (m .messages) (m .count) w ∙ sym (length-set (m .messages) (m .count) (o .message));
+                at-promises = λ t out.
+                    let mine = subst (λ (p : ℕ). T (has p t)) left out in
+                    let low = has-positive (s .promises) t mine in
+                    let high = has-time (s .promises) (m .count) t within mine in
+                    message-stays m w t low high ∙ sym (message-stays m (o .message) t low high);
+              } in
+              let run = loadless-law c i (q .hole) j (s .position) loadless m' (append m (o .message)) (o .after) (omega arith) kept (o .goes-on) in
+              found .barren (o .after) (own-after s' (rests-less more' rests) z (then .cares .of) (rests-less more rests .agreeing) j o) j l (subst (λ (y : Memory). Meets c i y (o .after) (q .hole) j) (sym me) run)
+
+      -- it is noted to rest on its data too
+      module _ (noted : (v v' : Thread) → Agreeing (placed .of) v v' → Agrees 2 (valueOf v d) (valueOf v' d)) where
+        same-data : (s' : Thread) → Rests (placed .of) s s' → valueOf s d ≡ valueOf s' d
+        same-data s' rests = same-value (noted s s' (rests .agreeing))
+
+        promised-data : (s' : Thread) → Rests (placed .of) s s' → valueOf (addPromise m' s) d ≡ valueOf (addPromise m' s') d
+        promised-data s' rests = value-promised m' s d ∙ same-data s' rests ∙ sym (value-promised m' s' d)
+
+        -- a thread in which is so what it rests on has the same message
+        own-same : (s' : Thread) → Rests (placed .of) s s' → (j : ℕ) (o : Owns c i m s' x (q .hole) j) → o .message ≡ w
+        unfolding w
+        own-same s' rests j o =
+            let mine : storeMessage i a d s' ≡ o .message = Option·some-injective _ _ (sym (ap (messageOf i s') is) ∙ o .is-own) in
+            sym (ap₂ (λ (l v : ℕ). record { location = l; value = v; thread = i }) (same-place s' rests) (same-data s' rests) ∙ mine)
+
+        pub owns-stuck : (n : ℕ) → u .answer ≡ Refused n → Found (q .from) (q .met) (λ y j. Owns c i m y x (q .hole) j) s (record { met = q .met; cares = placed })
+        unfolding ownStore w m'
+        owns-stuck n z =
+            found-none (q .from) (q .met) (λ y j. Owns c i m y x (q .hole) j) s placed (λ s' rests j l o.
+            let its = subst (λ (v : Message). execute (Store how a d) (append m v) ((append m v) .count) (addPromise (append m v) s') ≡ next (o .after)) (own-same s' rests j o) (its-store s' j o) in
+            let mine = store-too m' how a d (addPromise m' s) (addPromise m' s') (promise-rests m' rests .under) (promised-place s' rests) (m' .count) (o .after) (promised-data s' rests) its in
+            other (sym (ruled-refused s (ownStore how a d m i s) u n e z) ∙ mine .1))
+
+        pub owns-goes : (m₁ : Memory) → m₁ ≡ append m (storeMessage i a d s) → u .answer ≡ Done → (then : Reached) → Found (q .from) (q .met) (λ y j. Meets c i m₁ y (q .hole) j) (u .thread) then
+            → (k' : Cares) → Covers (k' .of) (then .cares .of) → Covers (k' .of) (placed .of)
+            → Found (q .from) (q .met) (λ y j. Owns c i m y x (q .hole) j) s (record { met = then .met; cares = k' })
+        unfolding w m'
+        owns-goes m₁ me z then found k' more more' =
+            record {
+              better = owns-better m₁ me z (found .better);
+              barren = λ s' rests j l o.
+                  let settles = rests-less more' rests in
+                  found .barren (o .after) (own-after s' settles z (then .cares .of) (rests-less more rests .agreeing) j o) j l
+                  (subst (λ (y : Memory). Meets c i y (o .after) (q .hole) j) (ap (append m) (own-same s' settles j o) ∙ sym me) (o .goes-on));
+            }

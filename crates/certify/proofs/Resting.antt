@@ -116,11 +116,11 @@ module _ (m : Memory) (k : StoreMode) (a d : Operand) (s s' : Thread) (h : Under
       go : (y' : Thread) → Effect m t s' (Store k a d) y' → (y : Thread) × (execute (Store k a d) m t s ≡ next y)
       go y' (stored p x z) = (_, executes (store-effect s s' h k a d near-a m t same-data p x z))
 
-  -- both fulfilled the promise at time t
-  pub store-rests : (K : List ℕ) → Agreeing K s s' → (t : ℕ) (y y' : Thread) → execute (Store k a d) m t s ≡ next y → execute (Store k a d) m t s' ≡ next y' → Rests K y y'
-  store-rests K all t y y' e e' = go y y' (effect (Store k a d) m t s y e) (effect (Store k a d) m t s' y' e')
+  -- both fulfilled the promise at time t, on whatever memories
+  pub store-rests : (K : List ℕ) → Agreeing K s s' → (t : ℕ) (n : Memory) (y y' : Thread) → execute (Store k a d) m t s ≡ next y → execute (Store k a d) n t s' ≡ next y' → Rests K y y'
+  store-rests K all t n y y' e e' = go y y' (effect (Store k a d) m t s y e) (effect (Store k a d) n t s' y' e')
     where
-      go : (y y' : Thread) → Effect m t s (Store k a d) y → Effect m t s' (Store k a d) y' → Rests K y y'
+      go : (y y' : Thread) → Effect m t s (Store k a d) y → Effect n t s' (Store k a d) y' → Rests K y y'
       go y y' (stored p x z) (stored p' x' z') = record { under = store-under s s' h k a d near-a t; agreeing = all }
 
 -- what s' stored stands at a promise of s too

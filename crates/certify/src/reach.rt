@@ -28,6 +28,7 @@ use crate::window::earliest;
 use crate::window::following;
 use cares::Cares;
 use cares::barring;
+use live::loads_ahead;
 use machine::Memory;
 use machine::Message;
 use machine::RuleAnswer;
@@ -357,7 +358,8 @@ fn try_at(c: Code, i: u8, m: Memory, s: Thread, x: Instr, t: u8, p: Tried, q: So
     noted(x, t, p, search_runs(c, i, m, r.thread, less), false)
 }
 
-// A store appends its own message and fulfils it at once, and the thread goes on from there.
+// A store appends its own message and fulfils it at once, and the thread goes on from there. Where no load is left to read the message, its
+// value does not count.
 fn own_reached(
     c: Code,
     i: u8,
@@ -378,7 +380,8 @@ fn own_reached(
     }
     match x {
         Instr::Store(how, a, d) => {
-            let settled = k.noting(a, barring(65535)).noting(d, 2);
+            let placed = k.noting(a, barring(65535));
+            let settled = placed.noting(d, 2);
             let r = own_store(how, a, d, m, i, s);
             let answer = r.answer;
             let RuleAnswer::Done = answer else {
@@ -391,9 +394,15 @@ fn own_reached(
             let then = search_runs(c, i, m.append(w), r.thread, q);
             let known = then.met;
             let rests = then.cares;
+            if loads_ahead(c, s.position) {
+                return Reached {
+                    met: known,
+                    cares: rests.and(settled),
+                };
+            }
             Reached {
                 met: known,
-                cares: rests.and(settled),
+                cares: rests.and(placed),
             }
         }
         Instr::Load(_, _, _, _) => none,

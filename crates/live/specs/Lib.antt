@@ -1,1 +1,2 @@
 pub mod Live
+pub mod Loadless

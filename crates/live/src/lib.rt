@@ -2,9 +2,11 @@
 pub mod steering;
 
 ghost use mathlib.Core.Path.{_≡_};
+ghost use mathlib.Core.Bool.{false};
 ghost use Prim.Native.Nat.{_≤_};
 ghost use lib.Dec.{ltb};
 ghost use Rattle.source.specs.Counts.{storesFrom};
+ghost use Rattle.live.specs.Loadless.{Loadless};
 use source::Code;
 
 // Fewer than k stores stand at position n and after it.
@@ -23,4 +25,20 @@ pub fn fewer_stores(c: Code, n: u8, k: u32) -> bool
         at += 1;
     }
     found < k
+}
+
+// A load stands at position n or after it.
+pub fn loads_ahead(c: Code, n: u8) -> bool
+    requires { ⌜ c .count ≤ 16 ⌝ }
+    ensures { λ r. ⌜ (r ≡ false → Loadless c n) ⌝ }
+{
+    let mut k = n;
+    while k < c.count {
+        let i = c.instructions[k as usize];
+        if i.op == 1 {
+            return true;
+        }
+        k += 1;
+    }
+    false
 }

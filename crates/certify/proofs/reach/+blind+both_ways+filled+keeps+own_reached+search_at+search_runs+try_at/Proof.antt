@@ -23,7 +23,7 @@ use Rattle.certify.proofs.Numbers.{better-on}
 use Rattle.certify.proofs.Finding.{covers-self, covers-on}
 use Rattle.certify.proofs.Filling.{fill-no-hole, fill-none, fill-unsought, fill-here, fill-fails, alone-kept, alone-lost, hole-time, trying-filled, keeps-refused, keeps-done}
 use Rattle.certify.proofs.Missing.{knows-none, missed-none, missed-on, went-refused, went-hopeless, went-found, went-on, went-apart}
-use Rattle.certify.proofs.Owning.{owns-none, owns-untried, owns-stuck, owns-goes}
+use Rattle.certify.proofs.Owning.{owns-none, owns-untried, owns-apart, owns-stuck, owns-goes}
 use Rattle.certify.proofs.Unread.{blind-found}
 use Rattle.certify.proofs.Forking.{fork-this, fork-other, both-found}
 use Rattle.certify.proofs.Reaching.{reach-end, reach-ended, fills-meets, tried-meets, owns-meets, reach-all, straight-kept, straight-ended, straight-found, further-by, further-own}
@@ -85,6 +85,7 @@ use Rattle.certify.proofs.straight.halts.Reads as halts-reads
 use Rattle.certify.proofs.straight.straight.Reads as straight-reads
 use Rattle.certify.proofs.window.earliest.Reads as earliest-reads
 use Rattle.certify.proofs.window.following.Reads as following-reads
+use Rattle.live.proofs.loads_ahead.Reads as loads-ahead-reads
 use Rattle.machine.proofs.Memory.append.Reads as append-reads
 use Rattle.machine.proofs.promises.has.Reads as has-reads
 use Rattle.rules.proofs.execute.Reads as execute-reads
@@ -190,7 +191,7 @@ abbrev keeps-claims : ℕ → keeps-lts.Claims
 keeps-claims t = (execute-reads.Asked, execute-reads.Learnt, certified-reads.Asked, certified-reads.Learnt, search-runs-below t, search-runs.Post)
 
 abbrev own-reached-claims : ℕ → own-reached-lts.Claims
-own-reached-claims t = (barring-reads.Asked, barring-reads.Learnt, noting-reads.Asked, noting-reads.Learnt, own-store-reads.Asked, own-store-reads.Learnt, own-message-reads.Asked, own-message-reads.Learnt, append-reads.Asked, append-reads.Learnt, search-runs-below t, search-runs.Post, and-reads.Asked, and-reads.Learnt)
+own-reached-claims t = (barring-reads.Asked, barring-reads.Learnt, noting-reads.Asked, noting-reads.Learnt, own-store-reads.Asked, own-store-reads.Learnt, own-message-reads.Asked, own-message-reads.Learnt, append-reads.Asked, append-reads.Learnt, search-runs-below t, search-runs.Post, loads-ahead-reads.Asked, loads-ahead-reads.Learnt, and-reads.Asked, and-reads.Learnt)
 
 abbrev search-at-claims : ℕ → search-at-lts.Claims
 search-at-claims t = (blind-below t, blind.Post, earliest-reads.Asked, earliest-reads.Learnt, filled-below t, filled.Post, untried-reads.Asked, untried-reads.Learnt, hopeless-reads.Asked, hopeless-reads.Learnt, try-at-below t, try-at.Post, ended-reads.Asked, ended-reads.Learnt, following-reads.Asked, following-reads.Learnt, appends-reads.Asked, appends-reads.Learnt, after-reads.Asked, after-reads.Learnt, own-reached-below t, own-reached.Post, asks-reads.Asked, asks-reads.Learnt, and-reads.Asked, and-reads.Learnt)
@@ -453,6 +454,12 @@ own-reached-append-requires t c κs = c .before .before .before .before .before 
 own-reached-search-runs-requires : (t : ℕ) → own-reached-lts.Need-search-runs-requires (own-reached-claims t) (own-reached-at t) own-reached.Post
 own-reached-search-runs-requires t c κs = let f = further-own _ _ _ _ (c .before .before .before .before .before .before .before .before .before .before .before .before .before .pre .1 .0) _ _ _ (c .before .before .before .before .before .before .before .before .before .x .given .1) _ _ (c .before .before .before .before .own-store .ensures) (c .before .before .enum-told .given .1) in (omega (arith, c .before .before .before .before .before .before .before .before .before .before .before .before .before .pre .0), rw (c .append .ensures, c .before .own-message .ensures) (ready-own _ _ _ _ _ (c .before .before .before .before .before .before .before .before .before .before .before .before .before .pre .1 .0 .ready) (c .before .before .before .before .before .before .before .before .before .before .before .before .before .pre .1 .1 .room (not-false _ (c .before .before .before .before .before .before .before .before .before .before .before .if1 .left))) (ruled-done _ _ _ (c .before .before .before .before .own-store .ensures) (c .before .before .enum-told .given .1))))
 
+own-reached-loads-ahead-requires : (t : ℕ) → own-reached-lts.Need-loads-ahead-requires (own-reached-claims t) (own-reached-at t) own-reached.Post
+own-reached-loads-ahead-requires t c κs = c .before .before .before .before .before .before .before .before .before .before .before .before .before .before .before .before .pre .1 .0 .ready .code-ok .short
+
+own-reached-and-requires-2 : (t : ℕ) → own-reached-lts.Need-and-requires-2 (own-reached-claims t) (own-reached-at t) own-reached.Post
+own-reached-and-requires-2 t c κs = search needs
+
 own-reached-and-requires : (t : ℕ) → own-reached-lts.Need-and-requires (own-reached-claims t) (own-reached-at t) own-reached.Post
 own-reached-and-requires t c κs = search needs
 
@@ -469,19 +476,22 @@ own-reached-enum-told-6 : (t : ℕ) → own-reached-lts.Need-enum-told-6 (own-re
 own-reached-enum-told-6 t c = search needs
 
 own-reached-returns-3 : (t : ℕ) → own-reached-lts.Need-returns-3 (own-reached-claims t) (own-reached-at t) own-reached.Post
-own-reached-returns-3 t c = (owns-goes _ _ _ _ _ (c .before .before .before .before .before .before .before .before .before .before .before .before .before .before .before .before .before .args .q) (c .before .before .before .before .before .before .before .before .before .before .before .before .before .before .before .before .before .args .k) _ _ _ (c .before .before .before .before .before .before .before .before .before .before .before .before .before .x .given .1) (c .before .before .before .before .before .before .before .before .before .before .before .before .before .before .before .before .before .pre .1 .1 .room (not-false _ (c .before .before .before .before .before .before .before .before .before .before .before .before .before .before .before .if1 .left))) _ (c .before .before .before .before .before .before .before .before .own-store .ensures) _ (λ v w g. rw (c .before .before .before .before .before .before .before .before .before .before .before .barring .ensures) at (c .before .before .before .before .before .before .before .before .before .before .noting .ensures v w (c .before .before .before .before .before .before .before .before .before .noting2 .ensures v w g .0) .1)) (λ v w g. c .before .before .before .before .before .before .before .before .before .noting2 .ensures v w g .1) _ (rw (c .before .before .before .before .append .ensures, c .before .before .before .before .before .own-message .ensures)) (c .before .before .before .before .before .before .enum-told .given .1) _ (c .before .before .before .search-runs .ensures) _ (c .and .ensures .0) (c .and .ensures .1), covers-on (c .and .ensures .1) (record { agreeing = λ v w g. c .before .before .before .before .before .before .before .before .before .before .noting .ensures v w (c .before .before .before .before .before .before .before .before .before .noting2 .ensures v w g .0) .0 }))
+own-reached-returns-3 t c = (owns-goes _ _ _ _ _ (c .before .before .before .before .before .before .before .before .before .before .before .before .before .before .before .before .before .before .before .args .q) (c .before .before .before .before .before .before .before .before .before .before .before .before .before .before .before .before .before .before .before .args .k) _ _ _ (c .before .before .before .before .before .before .before .before .before .before .before .before .before .before .before .x .given .1) (c .before .before .before .before .before .before .before .before .before .before .before .before .before .before .before .before .before .before .before .pre .1 .1 .room (not-false _ (c .before .before .before .before .before .before .before .before .before .before .before .before .before .before .before .before .before .if1 .left))) _ (c .before .before .before .before .before .before .before .before .before .before .own-store .ensures) _ (λ v w g. rw (c .before .before .before .before .before .before .before .before .before .before .before .before .before .barring .ensures) at (c .before .before .before .before .before .before .before .before .before .before .before .before .noting .ensures v w (c .before .before .before .before .before .before .before .before .before .before .before .noting2 .ensures v w g .0) .1)) (λ v w g. c .before .before .before .before .before .before .before .before .before .before .before .noting2 .ensures v w g .1) _ (rw (c .before .before .before .before .before .before .append .ensures, c .before .before .before .before .before .before .before .own-message .ensures)) (c .before .before .before .before .before .before .before .before .enum-told .given .1) _ (c .before .before .before .before .before .search-runs .ensures) _ (c .and .ensures .0) (c .and .ensures .1), covers-on (c .and .ensures .1) (record { agreeing = λ v w g. c .before .before .before .before .before .before .before .before .before .before .before .before .noting .ensures v w (c .before .before .before .before .before .before .before .before .before .before .before .noting2 .ensures v w g .0) .0 }))
 
 own-reached-returns-4 : (t : ℕ) → own-reached-lts.Need-returns-4 (own-reached-claims t) (own-reached-at t) own-reached.Post
-own-reached-returns-4 t c = (owns-none _ _ _ _ _ (c .before .before .before .before .args .q) _ (λ y. rw (c .enum-told3 .given .1)), covers-self _)
+own-reached-returns-4 t c = (owns-apart _ _ _ _ _ (c .before .before .before .before .before .before .before .before .before .before .before .before .before .before .before .before .before .before .before .args .q) (c .before .before .before .before .before .before .before .before .before .before .before .before .before .before .before .before .before .before .before .args .k) _ _ _ (c .before .before .before .before .before .before .before .before .before .before .before .before .before .before .before .x .given .1) (c .before .before .before .before .before .before .before .before .before .before .before .before .before .before .before .before .before .before .before .pre .1 .1 .room (not-false _ (c .before .before .before .before .before .before .before .before .before .before .before .before .before .before .before .before .before .if1 .left))) _ (c .before .before .before .before .before .before .before .before .before .before .own-store .ensures) _ (λ v w g. rw (c .before .before .before .before .before .before .before .before .before .before .before .before .before .barring .ensures) at (c .before .before .before .before .before .before .before .before .before .before .before .before .noting .ensures v w g .1)) (c .before .before .loads-ahead .ensures (c .before .if2 .left)) (c .before .before .before .before .before .before .before .before .before .before .before .before .before .before .before .before .before .before .before .pre .1 .0 .ready .promises-in) _ (rw (c .before .before .before .before .before .before .append .ensures, c .before .before .before .before .before .before .before .own-message .ensures)) (c .before .before .before .before .before .before .before .before .enum-told .given .1) _ (c .before .before .before .before .before .search-runs .ensures) _ (c .and2 .ensures .0) (c .and2 .ensures .1), covers-on (c .and2 .ensures .1) (record { agreeing = λ v w g. c .before .before .before .before .before .before .before .before .before .before .before .before .noting .ensures v w g .0 }))
 
 own-reached-returns-5 : (t : ℕ) → own-reached-lts.Need-returns-5 (own-reached-claims t) (own-reached-at t) own-reached.Post
-own-reached-returns-5 t c = (owns-none _ _ _ _ _ (c .before .before .before .before .args .q) _ (λ y. rw (c .enum-told4 .given .1)), covers-self _)
+own-reached-returns-5 t c = (owns-none _ _ _ _ _ (c .before .before .before .before .args .q) _ (λ y. rw (c .enum-told3 .given .1)), covers-self _)
 
 own-reached-returns-6 : (t : ℕ) → own-reached-lts.Need-returns-6 (own-reached-claims t) (own-reached-at t) own-reached.Post
-own-reached-returns-6 t c = (owns-none _ _ _ _ _ (c .before .before .before .before .args .q) _ (λ y. rw (c .enum-told5 .given .1)), covers-self _)
+own-reached-returns-6 t c = (owns-none _ _ _ _ _ (c .before .before .before .before .args .q) _ (λ y. rw (c .enum-told4 .given .1)), covers-self _)
 
 own-reached-returns-7 : (t : ℕ) → own-reached-lts.Need-returns-7 (own-reached-claims t) (own-reached-at t) own-reached.Post
-own-reached-returns-7 t c = (owns-none _ _ _ _ _ (c .before .before .before .before .args .q) _ (λ y. rw (c .enum-told6 .given .1)), covers-self _)
+own-reached-returns-7 t c = (owns-none _ _ _ _ _ (c .before .before .before .before .args .q) _ (λ y. rw (c .enum-told5 .given .1)), covers-self _)
+
+own-reached-returns-8 : (t : ℕ) → own-reached-lts.Need-returns-8 (own-reached-claims t) (own-reached-at t) own-reached.Post
+own-reached-returns-8 t c = (owns-none _ _ _ _ _ (c .before .before .before .before .args .q) _ (λ y. rw (c .enum-told6 .given .1)), covers-self _)
 
 abbrev search-at-Inv-loop : search-at-lts.InvT-loop
 search-at-Inv-loop c i m s x q t₀ r₀ t r = Missed c i m s x q r 0 t × (Better (q .from) (Meets c i m s (q .hole)) (r₀ .met) (r .met) × (Covers (r .cares .of) (r₀ .cares .of) × (t ≤ 17)))
@@ -754,16 +764,19 @@ pub +blind+both-ways+filled+keeps+own-reached+search-at+search-runs+try-at-spec 
     (own-reached-own-message-requires t)
     (own-reached-append-requires t)
     (own-reached-search-runs-requires t)
+    (own-reached-loads-ahead-requires t)
     (own-reached-and-requires t)
+    (own-reached-returns-3 t)
+    (own-reached-and-requires-2 t)
     (own-reached-enum-told-3 t)
     (own-reached-enum-told-4 t)
     (own-reached-enum-told-5 t)
     (own-reached-enum-told-6 t)
-    (own-reached-returns-3 t)
     (own-reached-returns-4 t)
     (own-reached-returns-5 t)
     (own-reached-returns-6 t)
-    (own-reached-returns-7 t))
+    (own-reached-returns-7 t)
+    (own-reached-returns-8 t))
     (λ t. search-at-lts.spec (search-at-claims t) (search-at-at t)
     search-at.Post
     search-at-Inv-loop
