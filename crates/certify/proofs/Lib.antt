@@ -29,3 +29,4 @@ pub mod Vacant
 pub mod Loadless
 pub mod Idling
 pub mod Forking
+pub mod Losing

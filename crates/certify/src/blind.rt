@@ -1,10 +1,14 @@
-// Blind loads: they read 0 with no view of their own, and leave coherence as it is. No load leaves less, so that a failure after a blind load
-// tells of every load, wherever it reads, if what is read does not count.
+// Loads and stores of which it is known beforehand that nothing comes: a promise is lost; or a blind load tells. Blind loads read 0 with no
+// view of their own, and leave coherence as it is. No load leaves less, so that a failure after a blind load tells of every load, wherever it
+// reads, if what is read does not count.
 ghost use mathlib.Core.Path.{_≡_};
+ghost use mathlib.Core.Bool.{true, false};
 ghost use Prim.Native.Nat.{_+_, _≤_, _<_};
-ghost use Rattle.certify.specs.Blind.{unread};
+ghost use Rattle.certify.specs.Blind.{unread, Told};
+use crate::Met;
 use crate::idle::lowered;
 use crate::reach::Reached;
+use cares::Cares;
 use live::steering::steers;
 use loads::load_done;
 use loads::load_pre;
@@ -16,10 +20,45 @@ use source::Instr;
 use source::LoadMode;
 use source::Operand;
 
-// Whether a load is known to fail whatever it reads; and then what its search answers.
+// Whether an instruction is known to fail; and then what its search answers.
 pub struct Blind {
     pub fails: bool,
     pub found: Reached,
+}
+
+// Nothing is known.
+pub fn unknown(met: Met) -> Blind
+    ensures { λ r. ⌜ r .fails ≡ false ⌝ }
+{
+    Blind {
+        fails: false,
+        found: Reached {
+            met: met,
+            cares: Cares { of: [0; 8] },
+        },
+    }
+}
+
+// What a search after a blind load into r tells: if no number is met besides those known, and what is read does not count, every load there
+// fails.
+pub fn told(r: u8, then: Reached, met: Met) -> Blind
+    ensures { λ b. ⌜ (b .fails ≡ true → Told r then met (b .found)) ⌝ }
+{
+    let known = then.met;
+    let rests = then.cares;
+    if !known.is(met) {
+        return unknown(met);
+    }
+    if rests.of_register(r) != 0 {
+        return unknown(met);
+    }
+    Blind {
+        fails: true,
+        found: Reached {
+            met: met,
+            cares: rests.forgetting(r),
+        },
+    }
 }
 
 // The thread after a blind load into r. At which location does not count, since coherence is put back.

@@ -11,6 +11,8 @@ use crate::Met;
 use crate::Sought;
 use crate::asks::asks;
 use crate::blind::Blind;
+use crate::blind::told;
+use crate::blind::unknown;
 use crate::blind::unread;
 use crate::blind::worth_asking;
 use crate::idle::idle;
@@ -29,6 +31,7 @@ use crate::window::following;
 use cares::Cares;
 use cares::barring;
 use live::loads_ahead;
+use lost::first_lost;
 use machine::Memory;
 use machine::Message;
 use machine::RuleAnswer;
@@ -143,47 +146,34 @@ pub fn search_runs(c: Code, i: u8, m: Memory, s: Thread, q: Sought) -> Reached
     }
 }
 
-// Whether a load comes to nothing whatever it reads: then neither what it reads counts nor its address.
+// Whether it is known beforehand that nothing comes of x: a promise is lost, or x is a load that fails whatever it reads.
 fn blind(c: Code, i: u8, m: Memory, s: Thread, x: Instr, q: Sought) -> Blind
     requires { ⌜ Trying c m s x × Unkept s x q ⌝ }
     ensures { λ r. ⌜ (r .fails ≡ true → Found (q .from) (q .met) (λ y k. Meets c i m y (q .hole) k) s (r .found)) ⌝ }
 {
     let met = q.met;
-    let nothing = Reached {
-        met: met,
-        cares: Cares { of: [0; 8] },
-    };
-    let unknown = Blind {
-        fails: false,
-        found: nothing,
-    };
+    let gone = first_lost(c, m, s, q.hole);
+    if gone.certain {
+        let rests = gone.cares;
+        return Blind {
+            fails: true,
+            found: Reached {
+                met: met,
+                cares: rests,
+            },
+        };
+    }
     if !worth_asking(x, c, s) {
-        return unknown;
+        return unknown(met);
     }
     match x {
         Instr::Load(k, r, a, b) => {
-            let then = search_runs(c, i, m, unread(k, r, a, b, m, s), q);
-            let known = then.met;
-            let rests = then.cares;
-            if !known.is(met) {
-                return unknown;
-            }
-            if rests.of_register(r) != 0 {
-                return unknown;
-            }
-            let found = Reached {
-                met: met,
-                cares: rests.forgetting(r),
-            };
-            Blind {
-                fails: true,
-                found: found,
-            }
+            told(r, search_runs(c, i, m, unread(k, r, a, b, m, s), q), met)
         }
-        Instr::Store(_, _, _) => unknown,
-        Instr::Compute(_, _, _, _) => unknown,
-        Instr::Branch(_, _, _) => unknown,
-        Instr::Fence(_) => unknown,
+        Instr::Store(_, _, _) => unknown(met),
+        Instr::Compute(_, _, _, _) => unknown(met),
+        Instr::Branch(_, _, _) => unknown(met),
+        Instr::Fence(_) => unknown(met),
     }
 }
 
@@ -221,7 +211,7 @@ fn both_ways(c: Code, i: u8, m: Memory, s: Thread, w: Walk, q: Sought) -> Reache
 }
 
 // The same for a thread at its next load or store, x: times ascending, then the store's own message. What the tries themselves rest on is
-// worked out last: most searches that succeed never ask for it. With many messages about, it is asked first whether a blind load tells all.
+// worked out last: most searches that succeed never ask for it. With many messages about, it is asked first whether anything can come of it.
 fn search_at(c: Code, i: u8, m: Memory, s: Thread, x: Instr, q: Sought) -> Reached
     requires { ⌜ Trying c m s x × Unkept s x q ⌝ }
     ensures { λ r. ⌜ Found (q .from) (q .met) (λ y k. Meets c i m y (q .hole) k) s r ⌝ }

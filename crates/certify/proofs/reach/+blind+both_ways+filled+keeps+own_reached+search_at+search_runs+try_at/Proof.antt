@@ -24,6 +24,7 @@ use Rattle.certify.proofs.Finding.{covers-self, covers-on}
 use Rattle.certify.proofs.Filling.{fill-no-hole, fill-none, fill-unsought, fill-here, fill-fails, alone-kept, alone-lost, hole-time, trying-filled, keeps-refused, keeps-done}
 use Rattle.certify.proofs.Missing.{knows-none, missed-none, missed-on, went-refused, went-hopeless, went-found, went-on, went-apart}
 use Rattle.certify.proofs.Owning.{owns-none, owns-untried, owns-apart, owns-stuck, owns-goes}
+use Rattle.certify.proofs.Losing.{lost-found}
 use Rattle.certify.proofs.Unread.{blind-found}
 use Rattle.certify.proofs.Forking.{fork-this, fork-other, both-found}
 use Rattle.certify.proofs.Reaching.{reach-end, reach-ended, fills-meets, tried-meets, owns-meets, reach-all, straight-kept, straight-ended, straight-found, further-by, further-own}
@@ -66,6 +67,8 @@ use Rattle.certify.proofs.Sought.after.Reads as after-reads
 use Rattle.certify.proofs.Sought.certified.Reads as certified-reads
 use Rattle.certify.proofs.Sought.seeks.Reads as seeks-reads
 use Rattle.certify.proofs.asks.asks.Reads as asks-reads
+use Rattle.certify.proofs.blind.told.Reads as told-reads
+use Rattle.certify.proofs.blind.unknown.Reads as unknown-reads
 use Rattle.certify.proofs.blind.unread.Reads as unread-reads
 use Rattle.certify.proofs.blind.worth_asking.Reads as worth-asking-reads
 use Rattle.certify.proofs.idle.idle.Reads as idle-reads
@@ -86,6 +89,7 @@ use Rattle.certify.proofs.straight.straight.Reads as straight-reads
 use Rattle.certify.proofs.window.earliest.Reads as earliest-reads
 use Rattle.certify.proofs.window.following.Reads as following-reads
 use Rattle.live.proofs.loads_ahead.Reads as loads-ahead-reads
+use Rattle.lost.proofs.first_lost.Reads as first-lost-reads
 use Rattle.machine.proofs.Memory.append.Reads as append-reads
 use Rattle.machine.proofs.promises.has.Reads as has-reads
 use Rattle.rules.proofs.execute.Reads as execute-reads
@@ -179,7 +183,7 @@ abbrev try-at-below : ℕ → In 0 try-at-kinds.ps
 try-at-below t = and 0 try-at-kinds.ps (falls 0 try-at-kinds.ps _<_ μ-try-at t) try-at.Pre
 
 abbrev blind-claims : ℕ → blind-lts.Claims
-blind-claims t = (worth-asking-reads.Asked, worth-asking-reads.Learnt, unread-reads.Asked, unread-reads.Learnt, search-runs-below t, search-runs.Post, is-reads.Asked, is-reads.Learnt, of-register-reads.Asked, of-register-reads.Learnt, forgetting-reads.Asked, forgetting-reads.Learnt)
+blind-claims t = (first-lost-reads.Asked, first-lost-reads.Learnt, worth-asking-reads.Asked, worth-asking-reads.Learnt, unknown-reads.Asked, unknown-reads.Learnt, unread-reads.Asked, unread-reads.Learnt, search-runs-below t, search-runs.Post, told-reads.Asked, told-reads.Learnt)
 
 abbrev both-ways-claims : ℕ → both-ways-lts.Claims
 both-ways-claims t = (search-runs-below t, search-runs.Post, ended-reads.Asked, ended-reads.Learnt, held-reads.Asked, held-reads.Learnt, of-register-reads.Asked, of-register-reads.Learnt, before-straight-reads.Asked, before-straight-reads.Learnt, at-position-reads.Asked, at-position-reads.Learnt, after-reads.Asked, after-reads.Learnt, is-reads.Asked, is-reads.Learnt, and-reads.Asked, and-reads.Learnt)
@@ -202,62 +206,71 @@ search-runs-claims t = (kept-reads.Asked, kept-reads.Learnt, emptied-reads.Asked
 abbrev try-at-claims : ℕ → try-at-lts.Claims
 try-at-claims t = (execute-reads.Asked, execute-reads.Learnt, after-reads.Asked, after-reads.Learnt, kept-reads.Asked, kept-reads.Learnt, emptied-reads.Asked, emptied-reads.Learnt, idle-reads.Asked, idle-reads.Learnt, lowered-reads.Asked, lowered-reads.Learnt, search-runs-below t, search-runs.Post, noted-reads.Asked, noted-reads.Learnt)
 
-blind-worth-asking-requires : (t : ℕ) → blind-lts.Need-worth-asking-requires (blind-claims t) (blind-at t) blind.Post
-blind-worth-asking-requires t c κs = let w = c .before .pre .1 .0 in let l = there _ _ _ (w .is-next) .0 in (w .ready .code-ok .short, let h = w .ready .code-ok .short in omega arith)
+blind-first-lost-requires : (t : ℕ) → blind-lts.Need-first-lost-requires (blind-claims t) (blind-at t) blind.Post
+blind-first-lost-requires t c κs = let w = c .before .pre .1 .0 in (w .ready .code-ok .short, w .ready .room)
 
 blind-returns : (t : ℕ) → blind-lts.Need-returns (blind-claims t) (blind-at t) blind.Post
-blind-returns t c = λ e. absurd (subst T (sym e) tt)
+blind-returns t c = λ e. lost-found _ _ _ _ (c .before .before .before .before .args .q) _ (c .before .before .first-lost .ensures (c .before .if1 .taken))
+
+blind-worth-asking-requires : (t : ℕ) → blind-lts.Need-worth-asking-requires (blind-claims t) (blind-at t) blind.Post
+blind-worth-asking-requires t c κs = let w = c .before .before .before .pre .1 .0 in let l = there _ _ _ (w .is-next) .0 in (w .ready .code-ok .short, let h = w .ready .code-ok .short in omega arith)
+
+blind-unknown-requires : (t : ℕ) → blind-lts.Need-unknown-requires (blind-claims t) (blind-at t) blind.Post
+blind-unknown-requires t c κs = search needs
+
+blind-returns-2 : (t : ℕ) → blind-lts.Need-returns-2 (blind-claims t) (blind-at t) blind.Post
+blind-returns-2 t c = λ e. absurd (subst T (sym e ∙ c .unknown .ensures) tt)
 
 blind-enum-known-x : (t : ℕ) → blind-lts.Need-enum-known-x (blind-claims t) (blind-at t) blind.Post
 blind-enum-known-x t c = search needs
 
 blind-unread-requires : (t : ℕ) → blind-lts.Need-unread-requires (blind-claims t) (blind-at t) blind.Post
-blind-unread-requires t c κs = let w = c .before .before .before .before .before .before .pre .1 .0 in let h = reach-byte _ _ _ _ w in let q = rw (c .before .x .given .1) at h in omega arith
+blind-unread-requires t c κs = let w = c .before .before .before .before .before .before .before .before .pre .1 .0 in let h = reach-byte _ _ _ _ w in let q = rw (c .before .x .given .1) at h in omega arith
 
 blind-search-runs-requires : (t : ℕ) → blind-lts.Need-search-runs-requires (blind-claims t) (blind-at t) blind.Post
-blind-search-runs-requires t c κs = let w = c .before .before .before .before .before .before .before .pre .1 .0 in let at = ap (λ (v : Thread). v .position) (c .unread .ensures) in let l = there _ _ _ (w .is-next) .0 in let h = w .ready .code-ok .short in (omega (arith, c .before .before .before .before .before .before .before .pre .0), ready-as (w .ready) (ap (λ (v : Thread). v .promises) (c .unread .ensures)))
+blind-search-runs-requires t c κs = let w = c .before .before .before .before .before .before .before .before .before .pre .1 .0 in let at = ap (λ (v : Thread). v .position) (c .unread .ensures) in let l = there _ _ _ (w .is-next) .0 in let h = w .ready .code-ok .short in (omega (arith, c .before .before .before .before .before .before .before .before .before .pre .0), ready-as (w .ready) (ap (λ (v : Thread). v .promises) (c .unread .ensures)))
 
-blind-is-requires : (t : ℕ) → blind-lts.Need-is-requires (blind-claims t) (blind-at t) blind.Post
-blind-is-requires t c κs = search needs
-
-blind-returns-2 : (t : ℕ) → blind-lts.Need-returns-2 (blind-claims t) (blind-at t) blind.Post
-blind-returns-2 t c = λ e. absurd (subst T (sym e) tt)
-
-blind-of-register-requires : (t : ℕ) → blind-lts.Need-of-register-requires (blind-claims t) (blind-at t) blind.Post
-blind-of-register-requires t c κs = search needs
-
-blind-returns-3 : (t : ℕ) → blind-lts.Need-returns-3 (blind-claims t) (blind-at t) blind.Post
-blind-returns-3 t c = λ e. absurd (subst T (sym e) tt)
-
-blind-forgetting-requires : (t : ℕ) → blind-lts.Need-forgetting-requires (blind-claims t) (blind-at t) blind.Post
-blind-forgetting-requires t c κs = search needs
+blind-told-requires : (t : ℕ) → blind-lts.Need-told-requires (blind-claims t) (blind-at t) blind.Post
+blind-told-requires t c κs = search needs
 
 blind-enum-told : (t : ℕ) → blind-lts.Need-enum-told (blind-claims t) (blind-at t) blind.Post
 blind-enum-told t c = search needs
 
+blind-unknown-requires-2 : (t : ℕ) → blind-lts.Need-unknown-requires-2 (blind-claims t) (blind-at t) blind.Post
+blind-unknown-requires-2 t c κs = search needs
+
 blind-enum-told-2 : (t : ℕ) → blind-lts.Need-enum-told-2 (blind-claims t) (blind-at t) blind.Post
 blind-enum-told-2 t c = search needs
+
+blind-unknown-requires-3 : (t : ℕ) → blind-lts.Need-unknown-requires-3 (blind-claims t) (blind-at t) blind.Post
+blind-unknown-requires-3 t c κs = search needs
 
 blind-enum-told-3 : (t : ℕ) → blind-lts.Need-enum-told-3 (blind-claims t) (blind-at t) blind.Post
 blind-enum-told-3 t c = search needs
 
+blind-unknown-requires-4 : (t : ℕ) → blind-lts.Need-unknown-requires-4 (blind-claims t) (blind-at t) blind.Post
+blind-unknown-requires-4 t c κs = search needs
+
 blind-enum-told-4 : (t : ℕ) → blind-lts.Need-enum-told-4 (blind-claims t) (blind-at t) blind.Post
 blind-enum-told-4 t c = search needs
 
+blind-unknown-requires-5 : (t : ℕ) → blind-lts.Need-unknown-requires-5 (blind-claims t) (blind-at t) blind.Post
+blind-unknown-requires-5 t c κs = search needs
+
+blind-returns-3 : (t : ℕ) → blind-lts.Need-returns-3 (blind-claims t) (blind-at t) blind.Post
+blind-returns-3 t c = λ e. blind-found _ _ _ _ _ (c .before .before .before .before .before .before .before .before .before .before .before .pre .1 .0 .is-next) (c .before .before .before .before .before .before .before .before .before .before .before .args .q) (c .before .before .before .before .before .before .before .before .before .before .before .pre .1 .1) _ _ _ _ (c .before .before .before .before .x .given .1) _ (c .before .before .unread .ensures) _ (c .before .search-runs .ensures) _ (c .told .ensures e)
+
 blind-returns-4 : (t : ℕ) → blind-lts.Need-returns-4 (blind-claims t) (blind-at t) blind.Post
-blind-returns-4 t c = λ e. blind-found _ _ _ _ _ (c .before .before .before .before .before .before .before .before .before .before .before .before .before .before .before .pre .1 .0 .is-next) (c .before .before .before .before .before .before .before .before .before .before .before .before .before .before .before .args .q) (c .before .before .before .before .before .before .before .before .before .before .before .before .before .before .before .pre .1 .1) _ _ _ _ (c .before .before .before .before .before .before .before .before .before .before .x .given .1) _ (c .before .before .before .before .before .before .before .before .unread .ensures) _ (c .before .before .before .before .before .before .before .search-runs .ensures) (c .before .before .before .before .is .ensures (not-false _ (c .before .before .before .if2 .left))) (sym (c .before .before .of-register .ensures) ∙ c .before .if3 .left) _ (λ v w. c .forgetting .ensures v w)
+blind-returns-4 t c = λ e. absurd (subst T (sym e ∙ c .unknown2 .ensures) tt)
 
 blind-returns-5 : (t : ℕ) → blind-lts.Need-returns-5 (blind-claims t) (blind-at t) blind.Post
-blind-returns-5 t c = λ e. absurd (subst T (sym e) tt)
+blind-returns-5 t c = λ e. absurd (subst T (sym e ∙ c .unknown3 .ensures) tt)
 
 blind-returns-6 : (t : ℕ) → blind-lts.Need-returns-6 (blind-claims t) (blind-at t) blind.Post
-blind-returns-6 t c = λ e. absurd (subst T (sym e) tt)
+blind-returns-6 t c = λ e. absurd (subst T (sym e ∙ c .unknown4 .ensures) tt)
 
 blind-returns-7 : (t : ℕ) → blind-lts.Need-returns-7 (blind-claims t) (blind-at t) blind.Post
-blind-returns-7 t c = λ e. absurd (subst T (sym e) tt)
-
-blind-returns-8 : (t : ℕ) → blind-lts.Need-returns-8 (blind-claims t) (blind-at t) blind.Post
-blind-returns-8 t c = λ e. absurd (subst T (sym e) tt)
+blind-returns-7 t c = λ e. absurd (subst T (sym e ∙ c .unknown5 .ensures) tt)
 
 both-ways-search-runs-requires : (t : ℕ) → both-ways-lts.Need-search-runs-requires (both-ways-claims t) (both-ways-at t) both-ways.Post
 both-ways-search-runs-requires t c κs = let f = c .pre .1 .1 .0 in let w = c .pre .1 .0 in let l = fork-this _ _ _ _ _ _ f (w .code-ok) in (omega (arith, c .pre .0), leads-ready (walked-leads (c .pre .1 .1 .1 .0)) w)
@@ -673,25 +686,28 @@ pub +blind+both-ways+filled+keeps+own-reached+search-at+search-runs+try-at-spec 
 +blind+both-ways+filled+keeps+own-reached+search-at+search-runs+try-at-spec =
     close μ-blind μ-both-ways μ-filled μ-keeps μ-own-reached μ-search-at μ-search-runs μ-try-at (λ t. blind-lts.spec (blind-claims t) (blind-at t)
     blind.Post
-    (blind-worth-asking-requires t)
+    (blind-first-lost-requires t)
     (blind-returns t)
+    (blind-worth-asking-requires t)
+    (blind-unknown-requires t)
+    (blind-returns-2 t)
     (blind-enum-known-x t)
     (blind-unread-requires t)
     (blind-search-runs-requires t)
-    (blind-is-requires t)
-    (blind-returns-2 t)
-    (blind-of-register-requires t)
-    (blind-returns-3 t)
-    (blind-forgetting-requires t)
+    (blind-told-requires t)
     (blind-enum-told t)
+    (blind-unknown-requires-2 t)
     (blind-enum-told-2 t)
+    (blind-unknown-requires-3 t)
     (blind-enum-told-3 t)
+    (blind-unknown-requires-4 t)
     (blind-enum-told-4 t)
+    (blind-unknown-requires-5 t)
+    (blind-returns-3 t)
     (blind-returns-4 t)
     (blind-returns-5 t)
     (blind-returns-6 t)
-    (blind-returns-7 t)
-    (blind-returns-8 t))
+    (blind-returns-7 t))
     (λ t. both-ways-lts.spec (both-ways-claims t) (both-ways-at t)
     both-ways.Post
     (both-ways-search-runs-requires t)

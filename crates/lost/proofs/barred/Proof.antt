@@ -1,0 +1,118 @@
+-- `lost::barred` meets its contract: one case for each instruction, and for a store one for each way in which it cannot.
+-- Assumes nothing.
+use mathlib.Core.Path.{ap, _∙_}
+use native.Mathlib.Omega.{arith}
+use borrow.Author.Needs.{needs}
+use Rattle.source.proofs.Counts.{storesOf}
+use Rattle.machine.specs.Rules.{address}
+use Rattle.lost.proofs.Losing.{apart, no-store, store-late, store-elsewhere, store-other}
+use Rattle.lost.proofs.barred.Statement.{statement}
+use Rattle.lost.proofs.barred.Tie as tie
+
+enum-known-x : tie.Need-enum-known-x
+enum-known-x c = search needs
+
+store-pre-requires : tie.Need-store-pre-requires
+store-pre-requires c κs = search needs
+
+returns : tie.Need-returns
+returns c = let b = c .before in store-late _ _ _ _ _ _ _ _ _ (b .before .before .x .given .1) (let e = b .store-pre .ensures in let l = c .if1 .taken in omega arith)
+
+unwritten-requires : tie.Need-unwritten-requires
+unwritten-requires c κs = search needs
+
+value-of-requires : tie.Need-value-of-requires
+value-of-requires c κs = search needs
+
+address-requires : tie.Need-address-requires
+address-requires c κs = search needs
+
+marking-requires : tie.Need-marking-requires
+marking-requires c κs = search needs
+
+barring-requires : tie.Need-barring-requires
+barring-requires c κs = search needs
+
+noting-requires : tie.Need-noting-requires
+noting-requires c κs = search needs
+
+returns-2 : tie.Need-returns-2
+returns-2 c =
+    let t = c .before .before .before in
+    let b = t .before .before in
+    let f = apart _ _ _ _ (b .before .before .unwritten .ensures) (b .address .ensures .0 ∙ ap address (b .before .value-of .ensures)) (t .if2 .taken) in
+    store-elsewhere _ _ _ _ _ _ _ _ _ (b .before .before .before .before .before .before .x .given .1) (f .0) (f .1) _ _ (c .before .before .marking .ensures .0) (c .before .barring .ensures) _ (c .noting .ensures)
+
+unwritten-requires-2 : tie.Need-unwritten-requires-2
+unwritten-requires-2 c κs = search needs
+
+value-of-requires-2 : tie.Need-value-of-requires-2
+value-of-requires-2 c κs = search needs
+
+cast-noting : tie.Need-cast-noting
+cast-noting c = search needs
+
+add-noting : tie.Need-add-noting
+add-noting c = search needs
+
+noting-requires-2 : tie.Need-noting-requires-2
+noting-requires-2 c κs = search needs
+
+enum-told : tie.Need-enum-told
+enum-told c = search needs
+
+enum-told-2 : tie.Need-enum-told-2
+enum-told-2 c = search needs
+
+enum-told-3 : tie.Need-enum-told-3
+enum-told-3 c = search needs
+
+enum-told-4 : tie.Need-enum-told-4
+enum-told-4 c = search needs
+
+returns-3 : tie.Need-returns-3
+returns-3 c =
+    let b = c .before .before .before in
+    let t = b .before .before .before .before .before .before .before .before .before .before in
+    store-other _ _ _ _ _ _ _ _ _ (t .x .given .1) _ (apart _ _ _ _ (b .before .unwritten2 .ensures) (b .value-of2 .ensures)) (omega arith) _ (c .noting2 .ensures)
+
+returns-4 : tie.Need-returns-4
+returns-4 c = no-store _ _ _ _ _ _ (ap storesOf (c .enum-told .given .1))
+
+returns-5 : tie.Need-returns-5
+returns-5 c = no-store _ _ _ _ _ _ (ap storesOf (c .enum-told2 .given .1))
+
+returns-6 : tie.Need-returns-6
+returns-6 c = no-store _ _ _ _ _ _ (ap storesOf (c .enum-told3 .given .1))
+
+returns-7 : tie.Need-returns-7
+returns-7 c = no-store _ _ _ _ _ _ (ap storesOf (c .enum-told4 .given .1))
+
+pub barred-spec : {M : Type 1} → statement M
+barred-spec =
+    tie.close
+    (tie.spec
+    enum-known-x
+    store-pre-requires
+    returns
+    unwritten-requires
+    value-of-requires
+    address-requires
+    marking-requires
+    barring-requires
+    noting-requires
+    returns-2
+    unwritten-requires-2
+    value-of-requires-2
+    cast-noting
+    add-noting
+    noting-requires-2
+    enum-told
+    enum-told-2
+    enum-told-3
+    enum-told-4
+    returns-3
+    returns-4
+    returns-5
+    returns-6
+    returns-7)
