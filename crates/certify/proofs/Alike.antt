@@ -19,7 +19,7 @@ use Rattle.machine.proofs.Effects.{loadLocation, loadPreView, loadPostView, sto
 use Rattle.live.specs.Live.{isRegister, eitherRegister, locates, weighs, writes, skips, Live, here, later, through}
 use Rattle.certify.specs.Below.{Code, Operand, Constant, OfRegister, ComputeMode, LoadMode, StoreMode, FenceMode, Instr, Compute, Load, Store, Branch, Fence, Memory, Register, Thread}
 use Rattle.certify.proofs.Iff.{certified-iff}
-use Rattle.certify.proofs.Lower.{near-sum}
+use Rattle.lost.proofs.Lower.{near-sum}
 use Rattle.certify.proofs.Under.{promise-under, compute-under, branch-under, fence-under, read-low, post-low, load-under, load-effect, store-under, store-effect}
 use Rattle.certify.proofs.Executes.{executes}
 use Rattle.certify.specs.Runs.{Comes, done, by, own}

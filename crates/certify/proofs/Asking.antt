@@ -21,7 +21,7 @@ use Rattle.cares.proofs.Agreeing.{same-address, not-that, not-barred}
 use Rattle.certify.specs.Below.{Operand, LoadMode, StoreMode, Instr, Compute, Load, Store, Branch, Fence, Message, Memory, Thread}
 use Rattle.certify.specs.Asks.{Sought, OtherValues, Unsought, Elsewhere, StoresSame, LoadsSame, StoreAsks, Asks}
 use Rattle.certify.specs.Vacant.{Vacant}
-use Rattle.certify.proofs.Lower.{near-sum}
+use Rattle.lost.proofs.Lower.{near-sum}
 
 -- ---- the other values of the promises to a location, one by one
 module _ (m : Memory) (p l v : ℕ) where

@@ -5,7 +5,6 @@ pub mod Candidates
 pub mod Law
 pub mod Trying
 pub mod Asked
-pub mod Lower
 pub mod Under
 pub mod Executes
 pub mod Alike

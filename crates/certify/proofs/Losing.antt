@@ -1,178 +1,172 @@
--- A promise that is lost is never fulfilled: it stays lost along a run, and no store takes it out.
+-- What is lost is never written: a promise that is lost is not fulfilled, and the hole is not filled.
 -- Assumes nothing.
 use mathlib.Core.Path.{_≡_, refl, sym, ap, _∙_, subst}
-use mathlib.Core.Logic.{inl, inr}
-use mathlib.Core.Option.{some}
+use mathlib.Core.Logic.{inl, inr, ⊎-elim}
+use mathlib.Core.Option.{some, Option·some-injective}
 use Prim.Native.Nat.{ℕ, _-_, _≤_, _<_}
-use native.Mathlib.Nat.{le-refl, le-trans}
 use native.Mathlib.Omega.{arith}
 use lib.Dec.{T}
 use lib.Seq.{getD-set-other}
 use Rattle.source.specs.Program.{instrAt}
-use Rattle.source.proofs.Counts.{there}
-use Rattle.source.specs.declared.FenceMode.the-variants.{DmbSy, DmbLd, DmbSt, Isb}
-use Rattle.machine.specs.State.{noMessage, freshRegister, messageAt, append, has}
-use Rattle.machine.specs.Rules.{valueOf, viewOf, address, storePre, fenceViews, execute, addPromise}
+use Rattle.machine.specs.State.{noMessage, messageAt, append, has, with}
+use Rattle.machine.specs.Rules.{next, valueOf, viewOf, storePre, execute, addPromise}
 use Rattle.machine.proofs.Sets.{has-positive, has-none, has-without}
 use Rattle.machine.proofs.Memories.{message-stays}
-use Rattle.machine.proofs.Effects.{storeLocation, Promised, Effect, computed, loaded, stored, branched, fenced, effect, moves}
-use Rattle.cares.specs.Cares.{held}
+use Rattle.machine.proofs.Effects.{storeLocation, Effect, computed, loaded, stored, branched, fenced, effect}
 use Rattle.cares.specs.declared.Cares.{Cares}
-use Rattle.lost.specs.Lost.{Writes, Fixed, Bars, late, elsewhere, other, Lost, Above, LostOne}
-use Rattle.certify.specs.Below.{Code, Operand, Constant, OfRegister, StoreMode, FenceMode, Instr, Message, Memory, Register, Views, Thread}
+use Rattle.lost.specs.declared.wanted.Wanted.{Wanted}
+use Rattle.lost.specs.Lost.{Goes, start, Fits, Misses, late, elsewhere, other, Lost, Above, Filling, PromiseLost, HoleLost, Fruitless}
+use Rattle.lost.proofs.Lower.{store-pre-low}
+use Rattle.lost.proofs.Going.{lower-self, arrives-from}
+use Rattle.certify.specs.Below.{Code, Operand, StoreMode, Instr, Compute, Load, Store, Branch, Fence, Message, Memory, Thread}
 use Rattle.certify.specs.Certify.{messageOf, certified}
+use Rattle.certify.specs.Asks.{Unmet}
 use Rattle.certify.specs.Runs.{Comes, done, by, own}
 use Rattle.certify.specs.Sought.{Sought, fill, Aim, Meets, Found}
-use Rattle.certify.specs.Under.{Lower, Rests}
+use Rattle.certify.specs.Under.{Rests}
 use Rattle.certify.proofs.Iff.{onward-inv, certified-iff}
-use Rattle.certify.proofs.Fit.{own-effect, own-leaves}
-use Rattle.certify.proofs.Lower.{store-pre-low}
-use Rattle.certify.proofs.Under.{under-self}
+use Rattle.certify.proofs.Fit.{no-message, own-effect, own-leaves}
 use Rattle.certify.proofs.Finding.{found-none}
 use Rattle.certify.proofs.Filling.{fills-out}
 
--- ---- what an instruction leaves
--- views are no smaller after a fence
-fence-grows : (k : FenceMode) (v : Views) → Lower v (fenceViews k v)
-fence-grows DmbSy v = record { rOld-low = le-refl _; wOld-low = le-refl _; rNew-low = omega arith; wNew-low = omega arith; cap-low = le-refl _; rel-low = le-refl _ }
-fence-grows DmbLd v = record { rOld-low = le-refl _; wOld-low = le-refl _; rNew-low = omega arith; wNew-low = omega arith; cap-low = le-refl _; rel-low = le-refl _ }
-fence-grows DmbSt v = record { rOld-low = le-refl _; wOld-low = le-refl _; rNew-low = le-refl _; wNew-low = omega arith; cap-low = le-refl _; rel-low = le-refl _ }
-fence-grows Isb v = record { rOld-low = le-refl _; wOld-low = le-refl _; rNew-low = omega arith; wNew-low = le-refl _; cap-low = le-refl _; rel-low = le-refl _ }
-
--- nor after any instruction
-views-grow : {m : Memory} {t : ℕ} {s : Thread} {x : Instr} {s' : Thread} → Effect m t s x s' → Lower (s .views) (s' .views)
-views-grow {s = s} (computed e) = under-self s .views-low
-views-grow (loaded r n) = record { rOld-low = omega arith; wOld-low = le-refl _; rNew-low = omega arith; wNew-low = omega arith; cap-low = omega arith; rel-low = le-refl _ }
-views-grow (stored p a b) = record { rOld-low = le-refl _; wOld-low = omega arith; rNew-low = le-refl _; wNew-low = le-refl _; cap-low = omega arith; rel-low = omega arith }
-views-grow (branched e) = record { rOld-low = le-refl _; wOld-low = le-refl _; rNew-low = le-refl _; wNew-low = le-refl _; cap-low = omega arith; rel-low = le-refl _ }
-views-grow {s = s} (fenced {k} e) = fence-grows k (s .views)
-
--- a register that it does not write holds the same
-unwritten : {m : Memory} {t : ℕ} {s : Thread} {x : Instr} {s' : Thread} → Effect m t s x s' → (n : ℕ) → (Writes x n → ⊥) → held s' n ≡ held s n
-unwritten {s = s} (computed {r = r} e) n f = ap (λ (y : Register). y .value) (getD-set-other (s .registers) r n _ freshRegister (λ e. f (sym e)))
-unwritten {s = s} (loaded {r = r} d l) n f = ap (λ (y : Register). y .value) (getD-set-other (s .registers) r n _ freshRegister (λ e. f (sym e)))
-unwritten (stored p a b) n f = refl
-unwritten (branched e) n f = refl
-unwritten (fenced e) n f = refl
-
 -- ---- what is lost stays lost
--- views that are no smaller leave a store no smaller pre-view
-pre-grows : (k : StoreMode) {v w : Views} → Lower v w → storePre k 0 0 v ≤ storePre k 0 0 w
-pre-grows k {v} {w} l = store-pre-low k 0 0 0 0 v w (le-refl 0) (le-refl 0) l
+-- after an instruction
+goes-by : {c : Code} (m : Memory) (t : ℕ) (x : Instr) (s s' : Thread) → instrAt c (s .position) ≡ some x → execute x m t s ≡ next s' → Goes c s s'
+goes-by m t x s s' g e = record { memory = m; time = t; promises = s .promises; instr = x; is-next = g; does = e }
 
--- an operand that no instruction writes from n on is not written from a later position on
-fixed-later : (c : Code) (n n' q : ℕ) (a : Operand) → n ≤ n' → Fixed c n q a → Fixed c n' q a
-fixed-later c n n' q (Constant v) l f = tt
-fixed-later c n n' q (OfRegister r) l f = λ j x low. f j x (le-trans l low)
+-- and after a store with a message of its own
+goes-own : {c : Code} (m : Memory) (t : ℕ) (x : Instr) (s s' : Thread) → instrAt c (s .position) ≡ some x → execute x m t (addPromise m s) ≡ next s' → Goes c s s'
+goes-own m t x s s' g e = record { memory = m; time = t; promises = with (s .promises) (m .count); instr = x; is-next = g; does = e }
 
-module _ (c : Code) (x : Instr) (s s' : Thread) (g : instrAt c (s .position) ≡ some x) (on : s .position < s' .position) (grown : Lower (s .views) (s' .views)) (kept : (n : ℕ) → (Writes x n → ⊥) → held s' n ≡ held s n) where
-  -- an operand that stays as it is has the same value after the instruction
-  fixed-value : (q : ℕ) (a : Operand) → s .position < q → Fixed c (s .position) q a → valueOf s' a ≡ valueOf s a
-  fixed-value q (Constant v) l f = refl
-  fixed-value q (OfRegister r) l f = kept r (f (s .position) x (le-refl _) l g)
+lost-after : {c : Code} {s s' : Thread} {w : Wanted} → Goes c s s' → Lost c s w → Lost c s' w
+lost-after g lost y a = lost y (arrives-from g a)
 
-  -- a store further ahead still cannot
-  bars-after : {u : ℕ} {w : Message} {k : StoreMode} {a d : Operand} (q : ℕ) → s .position < q → Bars (Fixed c (s .position) q) s u w k a d → Bars (Fixed c (s' .position) q) s' u w k a d
-  bars-after {k = k} q l (late h) = late (le-trans h (pre-grows k grown))
-  bars-after {a = a} q l (elsewhere f n) = elsewhere (fixed-later c _ _ q a (omega arith) f) (λ e. n (ap address (sym (fixed-value q a l f)) ∙ e))
-  bars-after {d = d} q l (other f n) = other (fixed-later c _ _ q d (omega arith) f) (λ e. n (sym (fixed-value q d l f) ∙ e))
+-- where the goal is nowhere while something holds that instructions keep, it is not come to
+never-comes : {Goal : Memory → Thread → Type 0} {Room : Memory → Type 0} {c : Code} {i : ℕ} (Holds : Memory → Thread → Type 0) → ((m : Memory) (s : Thread) → Holds m s → Goal m s → ⊥)
+    → ((m : Memory) (t : ℕ) (x : Instr) (s s' : Thread) → Holds m s → instrAt c (s .position) ≡ some x → execute x m t s ≡ next s' → Holds m s')
+    → ((m : Memory) (v : Message) (x : Instr) (s s' : Thread) → Holds m s → instrAt c (s .position) ≡ some x → messageOf i s x ≡ some v → execute x (append m v) ((append m v) .count) (addPromise (append m v) s) ≡ next s' → Holds (append m v) s')
+    → {m : Memory} {s : Thread} → Holds m s → Comes Goal Room c i m s → ⊥
+never-comes Holds never keeps keeps-own {m} {s} h (done a) = never m s h a
+never-comes Holds never keeps keeps-own {m} {s} h (by x t s' g tl e r) = never-comes Holds never keeps keeps-own (keeps m t x s s' h g e) r
+never-comes Holds never keeps keeps-own {m} {s} h (own x v s' g gv room e r) = never-comes Holds never keeps keeps-own (keeps-own m v x s s' h g gv e) r
 
-  -- so none can after the instruction
-  lost-after : {u : ℕ} {w : Message} → Lost c s u w → Lost c s' u w
-  lost-after lost q low high k a d is = bars-after q (omega arith) (lost q (omega arith) high k a d is)
-
--- ---- it stays out
--- a store that cannot fulfil the promise at time u does not execute at that time
-bars-time : {Stays : Operand → Type 0} {m : Memory} {t u : ℕ} {s : Thread} {w : Message} {k : StoreMode} {a d : Operand} → Bars Stays s u w k a d → messageAt m u ≡ w
-    → Promised m t (storeLocation s a) (valueOf s d) s → storePre k (viewOf s a) (viewOf s d) (s .views) < t → t ≡ u → ⊥
-bars-time {s = s} {k = k} {a} {d} (late h) is p low e =
-    let l = store-pre-low k 0 (viewOf s a) 0 (viewOf s d) (s .views) (s .views) (omega arith) (omega arith) (under-self s .views-low) in
+-- ---- a message that is missed
+-- a store that misses it does not write it
+misses-time : {w : Wanted} {t : ℕ} {s : Thread} {k : StoreMode} {a d : Operand} → Misses w s k a d → storePre k (viewOf s a) (viewOf s d) (s .views) < t → t ≡ w .time → Fits w (storeLocation s a) (valueOf s d) → ⊥
+misses-time {s = s} {k} {a} {d} (late h) low e f =
+    let l = store-pre-low k 0 (viewOf s a) 0 (viewOf s d) (s .views) (s .views) (omega arith) (omega arith) (lower-self (s .views)) in
     omega arith
-bars-time (elsewhere f n) is p low e = n (cc)
-bars-time (other f n) is p low e = n (cc)
+misses-time (elsewhere n) low e f = n (f .0)
+misses-time (other n) low e f = n (f .1)
 
--- the promise of w at time u is outstanding, and lost
-record Losing (c : Code) (u : ℕ) (w : Message) (m : Memory) (s : Thread) : Type 0 where
-  in-memory : u ≤ m .count
-  out : T (has (s .promises) u)
-  message : messageAt m u ≡ w
-  lost : Lost c s u w
+-- ---- promises
+-- the promise of a message that is wanted is outstanding, and lost
+record Losing (c : Code) (w : Wanted) (m : Memory) (s : Thread) : Type 0 where
+  in-memory : w .time ≤ m .count
+  out : T (has (s .promises) (w .time))
+  fits : Fits w ((messageAt m (w .time)) .location) ((messageAt m (w .time)) .value)
+  lost : Lost c s w
 
-module _ {c : Code} {u : ℕ} {w : Message} {m : Memory} {s : Thread} (o : Losing c u w m s) where
+module _ {c : Code} {w : Wanted} {m : Memory} {s : Thread} (o : Losing c w m s) where
   -- an instruction leaves it outstanding
-  out-after : {t : ℕ} {x : Instr} {s' : Thread} → instrAt c (s .position) ≡ some x → Effect m t s x s' → T (has (s' .promises) u)
+  out-after : {t : ℕ} {x : Instr} {s' : Thread} → instrAt c (s .position) ≡ some x → Effect m t s x s' → T (has (s' .promises) (w .time))
   out-after g (computed e) = o .out
   out-after g (loaded r n) = o .out
   out-after {t} g (stored {k} {a} {d} p pre below) =
-      has-without (s .promises) t u (p .out) (bars-time (o .lost (s .position) (le-refl _) (there c _ _ g .0) k a d g) (o .message) p pre) (o .out)
+      has-without (s .promises) t (w .time) (p .out) (λ e.
+      let at = ap (messageAt m) (sym e) in
+      let here = ap (λ (v : Message). v .location) at ∙ p .at-location in
+      let value = ap (λ (v : Message). v .value) at ∙ p .at-value in
+      misses-time (o .lost s start k a d g) pre e (rw (here, value) at (o .fits))) (o .out)
   out-after g (branched e) = o .out
   out-after g (fenced e) = o .out
 
   -- and lost
-  losing-by : {t : ℕ} {x : Instr} {s' : Thread} → instrAt c (s .position) ≡ some x → Effect m t s x s' → Losing c u w m s'
-  losing-by {x = x} {s'} g h =
-      record {
-        in-memory = o .in-memory;
-        out = out-after g h;
-        message = o .message;
-        lost = lost-after c x s s' g (moves h) (views-grow h) (unwritten h) (o .lost);
-      }
+  losing-by : (t : ℕ) (x : Instr) (s' : Thread) → instrAt c (s .position) ≡ some x → execute x m t s ≡ next s' → Losing c w m s'
+  losing-by t x s' g e = record { in-memory = o .in-memory; out = out-after g (effect x m t s s' e); fits = o .fits; lost = lost-after (goes-by m t x s s' g e) (o .lost) }
 
-  -- so does a store with its own message v
-  losing-own : (i : ℕ) {v : Message} {x : Instr} {s' : Thread} → instrAt c (s .position) ≡ some x → messageOf i s x ≡ some v
-      → Effect (append m v) ((append m v) .count) (addPromise (append m v) s) x s' → Losing c u w (append m v) s'
-  losing-own i {v} {x} {s'} g gv h =
+  -- so does a store with its own message
+  losing-own : (i : ℕ) (v : Message) (x : Instr) (s' : Thread) → instrAt c (s .position) ≡ some x → messageOf i s x ≡ some v
+      → execute x (append m v) ((append m v) .count) (addPromise (append m v) s) ≡ next s' → Losing c w (append m v) s'
+  losing-own i v x s' g gv e =
       let known = o .in-memory in
+      let h = effect x (append m v) ((append m v) .count) (addPromise (append m v) s) s' e in
+      let stays = message-stays m v (w .time) (has-positive (s .promises) (w .time) (o .out)) known in
       record {
         in-memory = omega arith;
-        out = subst (λ (p : ℕ). T (has p u)) (sym (own-leaves (own-effect i m v s gv h))) (o .out);
-        message = message-stays m v u (has-positive (s .promises) u (o .out)) known ∙ o .message;
-        lost = lost-after c x s s' g (moves h) (views-grow h) (unwritten h) (o .lost);
+        out = subst (λ (p : ℕ). T (has p (w .time))) (sym (own-leaves (own-effect i m v s gv h))) (o .out);
+        fits = subst (λ (u : Message). Fits w (u .location) (u .value)) (sym stays) (o .fits);
+        lost = lost-after (goes-own (append m v) ((append m v) .count) x s s' g e) (o .lost);
       }
 
   -- and so does a message in the hole, which is at another time
-  losing-fill : {h : ℕ} (v : Message) → 0 < h → (h ≡ u → ⊥) → Losing c u w (fill m h v) s
+  losing-fill : {h : ℕ} (v : Message) → 0 < h → (h ≡ w .time → ⊥) → Losing c w (fill m h v) s
   losing-fill {h} v low n =
-      let positive = has-positive (s .promises) u (o .out) in
-      record {
-        in-memory = o .in-memory;
-        out = o .out;
-        message = getD-set-other (m .messages) (h - 1) (u - 1) v noMessage (λ e. n (omega arith)) ∙ o .message;
-        lost = o .lost;
-      }
-
--- ---- along a run
--- where the goal is nowhere while the promise is lost, it is not come to
-never-comes : {Goal : Memory → Thread → Type 0} {Room : Memory → Type 0} {c : Code} {i u : ℕ} {w : Message} → ((m : Memory) (s : Thread) → Losing c u w m s → Goal m s → ⊥)
-    → {m : Memory} {s : Thread} → Losing c u w m s → Comes Goal Room c i m s → ⊥
-never-comes never {m} {s} o (done a) = never m s o a
-never-comes never {m} {s} o (by x t s' g tl e r) = never-comes never (losing-by o g (effect x m t s s' e)) r
-never-comes {i = i} never {m} {s} o (own x v s' g gv room e r) =
-    never-comes never (losing-own o i g gv (effect x (append m v) ((append m v) .count) (addPromise (append m v) s) s' e)) r
+      let positive = has-positive (s .promises) (w .time) (o .out) in
+      let stays = getD-set-other (m .messages) (h - 1) (w .time - 1) v noMessage (λ e. n (omega arith)) in
+      record { in-memory = o .in-memory; out = o .out; fits = subst (λ (u : Message). Fits w (u .location) (u .value)) (sym stays) (o .fits); lost = o .lost }
 
 -- the promise set is not empty
-not-empty : {c : Code} {u : ℕ} {w : Message} (m : Memory) (s : Thread) → Losing c u w m s → s .promises ≡ 0 → ⊥
-not-empty {u = u} m s o e = has-none (s .promises) u e (o .out)
+not-empty : {c : Code} {w : Wanted} (m : Memory) (s : Thread) → Losing c w m s → s .promises ≡ 0 → ⊥
+not-empty {w = w} m s o e = has-none (s .promises) (w .time) e (o .out)
 
 -- nor is it once the hole is filled
-never-aim : {c : Code} {i h k u : ℕ} {w : Message} → (h ≡ u → ⊥) → (m : Memory) (s : Thread) → Losing c u w m s → Aim c i h k m s → ⊥
+never-aim : {c : Code} {i h k : ℕ} {w : Wanted} → (h ≡ w .time → ⊥) → (m : Memory) (s : Thread) → Losing c w m s → Aim c i h k m s → ⊥
 never-aim n m s o (inl e) = not-empty m s o (e .2)
-never-aim {c} {i} {h} n m s o (inr (x, g, f)) =
+never-aim {c} {i} {h} {k} {w} n m s o (inr (x, g, f)) =
     let m' = fill m h (f .message) in
     let q = onward-inv (certified c i m') (execute x m' h s) (f .keeps) in
     let filled = losing-fill o (f .message) (has-positive (s .promises) h (fills-out f)) n in
-    never-comes not-empty (losing-by filled g (effect x m' h s (q .0) (q .1))) (certified-iff c i m' (q .0) .0 (q .2))
+    never-comes (Losing c w) not-empty (λ m t x s s' l. losing-by l t x s') (λ m v x s s' l. losing-own l i v x s') (losing-by filled h x (q .0) g (q .1)) (certified-iff c i m' (q .0) .0 (q .2))
 
 -- LOST: a promise that is lost is never fulfilled
-pub lost-law : (c : Code) (i : ℕ) (m : Memory) (s : Thread) (u h k : ℕ) → Lost c s u (messageAt m u) → T (has (s .promises) u) → u ≤ m .count → (h ≡ u → ⊥) → Meets c i m s h k → ⊥
-lost-law c i m s u h k lost out known n r = never-comes (never-aim n) (record { in-memory = known; out = out; message = refl; lost = lost }) r
+promise-law : (c : Code) (i : ℕ) (m : Memory) (s : Thread) (w : Wanted) (h k : ℕ) → Losing c w m s → (h ≡ w .time → ⊥) → Meets c i m s h k → ⊥
+promise-law c i m s w h k o n r = never-comes (Losing c w) (never-aim n) (λ m t x s s' l. losing-by l t x s') (λ m v x s s' l. losing-own l i v x s') o r
 
--- where a promise besides the hole is lost, nothing is met
-pub lost-found : (c : Code) (i : ℕ) (m : Memory) (s : Thread) (q : Sought) (K : Cares) → LostOne c m s (q .hole) (K .of) → Found (q .from) (q .met) (λ y k. Meets c i m y (q .hole) k) s (record { met = q .met; cares = K })
-lost-found c i m s q K o = found-none (q .from) (q .met) (λ y k. Meets c i m y (q .hole) k) s K (λ s' rests k unmet r. barren s' rests k r)
+-- ---- the hole
+-- the store's own message is not one that is missed
+own-missed : (i : ℕ) {w : Wanted} {m : Memory} {t : ℕ} {v : Message} {s : Thread} {x : Instr} {y : Thread} → messageOf i s x ≡ some v → Effect m t s x y
+    → ((k : StoreMode) (a d : Operand) → x ≡ Store k a d → Misses w s k a d) → t ≡ w .time → Fits w (v .location) (v .value) → ⊥
+own-missed i g (computed e) misses at f = no-message g
+own-missed i g (loaded r n) misses at f = no-message g
+own-missed i {w} g (stored {k} {a} {d} p pre below) misses at f =
+    misses-time (misses k a d refl) pre at (subst (λ (u : Message). Fits w (u .location) (u .value)) (sym (Option·some-injective _ _ g)) f)
+own-missed i g (branched e) misses at f = no-message g
+own-missed i g (fenced e) misses at f = no-message g
+
+-- it is to one of the locations
+own-place : (i : ℕ) (s : Thread) (x : Instr) (v : Message) → messageOf i s x ≡ some v → v .location < 16
+own-place i s (Compute k r a b) v g = absurd (no-message g)
+own-place i s (Load k r a b) v g = absurd (no-message g)
+own-place i s (Store k a d) v g = let e = ap (λ (u : Message). u .location) (Option·some-injective _ _ g) in omega arith
+own-place i s (Branch n a b) v g = absurd (no-message g)
+own-place i s (Fence k) v g = absurd (no-message g)
+
+-- LOST: a hole that no store ahead can fill is never filled
+hole-law : (c : Code) (i : ℕ) (m : Memory) (s : Thread) (w : Wanted) (h from top k : ℕ) → (h ≡ 0 → ⊥) → Filling h from top w → from ≤ k → k < top → Lost c s w → Meets c i m s h k → ⊥
+hole-law c i m s w h from top k there filling low high lost r = never-comes (λ m s. Lost c s w) never (λ m t x s s' l g e. lost-after (goes-by m t x s s' g e) l) (λ m v x s s' l g gv e. lost-after (goes-own (append m v) ((append m v) .count) x s s' g e) l) lost r
   where
-    barren : (s' : Thread) → Rests (K .of) s s' → (k : ℕ) → Meets c i m s' (q .hole) k → ⊥
-    barren s' rests k r =
-        let above : Above s s' = record { same-position = rests .under .same-position; no-lower = λ j. pre-grows j (rests .under .views-low) } in
-        let out = subst (λ (p : ℕ). T (has p (o .time))) (rests .under .same-promises) (o .out) in
-        lost-law c i m s' (o .time) (q .hole) k (o .lost s' above (rests .agreeing)) out (o .in-memory) (o .no-hole) r
+    never : (m : Memory) (s : Thread) → Lost c s w → Aim c i h k m s → ⊥
+    never m s lost (inl e) = there (e .0)
+    never m s lost (inr (x, g, f)) =
+        let m' = fill m h (f .message) in
+        let q = onward-inv (certified c i m') (execute x m' h s) (f .keeps) in
+        let number = f .number in
+        own-missed i (f .is-own) (effect x m' h s (q .0) (q .1)) (λ j a d is. lost s start j a d (g ∙ ap some is)) (sym (filling .at-hole))
+        (filling .fits ((f .message) .location) ((f .message) .value) (own-place i s x (f .message) (f .is-own)) (f .byte) (omega arith) (omega arith))
+
+-- ---- so a search finds nothing
+pub fruitless-found : (c : Code) (i : ℕ) (m : Memory) (s : Thread) (q : Sought) (K : Cares) → Fruitless c m s (q .hole) (q .from) (q .met .second) (K .of)
+    → Found (q .from) (q .met) (λ y k. Meets c i m y (q .hole) k) s (record { met = q .met; cares = K })
+fruitless-found c i m s q K lost = found-none (q .from) (q .met) (λ y k. Meets c i m y (q .hole) k) s K (λ s' rests k unmet r. ⊎-elim (λ o. promised s' rests k r o) (λ o. filled s' rests k unmet r o) lost)
+  where
+    above : (s' : Thread) → Rests (K .of) s s' → Above s s'
+    above s' rests = record { same-position = rests .under .same-position; views-low = rests .under .views-low }
+
+    promised : (s' : Thread) → Rests (K .of) s s' → (k : ℕ) → Meets c i m s' (q .hole) k → PromiseLost c m s (q .hole) (K .of) → ⊥
+    promised s' rests k r o =
+        let out = subst (λ (p : ℕ). T (has p ((o .wanted) .time))) (rests .under .same-promises) (o .out) in
+        promise-law c i m s' (o .wanted) (q .hole) k (record { in-memory = o .in-memory; out = out; fits = o .fits; lost = o .lost s' (above s' rests) (rests .agreeing) }) (o .no-hole) r
+
+    filled : (s' : Thread) → Rests (K .of) s s' → (k : ℕ) → Unmet (q .from) (q .met) k → Meets c i m s' (q .hole) k → HoleLost c s (q .hole) (q .from) (q .met .second) (K .of) → ⊥
+    filled s' rests k unmet r o = hole-law c i m s' (o .wanted) (q .hole) (q .from) (q .met .second) k (o .there) (o .filling) (unmet .0) (unmet .1) (o .lost s' (above s' rests) (rests .agreeing)) r

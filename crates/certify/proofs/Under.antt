@@ -17,7 +17,7 @@ use Rattle.certify.specs.Below.{Operand, Constant, OfRegister, ComputeMo
 use Rattle.certify.specs.Straight.{atPosition}
 use Rattle.certify.specs.Under.{Forwarded, Under}
 use Rattle.certify.specs.Vacant.{cohering}
-use Rattle.certify.proofs.Lower.{raise-both, max-low, pre-low, store-pre-low, load-views-low, store-views-low, cap-views-low, fence-views-low, none-newer-low, view-low}
+use Rattle.lost.proofs.Lower.{raise-both, max-low, pre-low, store-pre-low, load-views-low, store-views-low, cap-views-low, fence-views-low, none-newer-low, view-low}
 
 -- a thread is under itself
 pub under-self : (s : Thread) → Under s s
@@ -199,7 +199,7 @@ module _ (s s' : Thread) (h : Under s s') where
           forward-same = subst (λ (l : ℕ). (j : ℕ) → Forwarded (set (s .forward) l (record { time = t; view = max (viewOf s a) (viewOf s d) })) (set (s' .forward) (storeLocation s' a) (record { time = t; view = max (viewOf s' a) (viewOf s' d) })) j) (sym same)
               (set-both (λ (j : ℕ) (x y : Forward). (x .time ≡ y .time) × (x .view ≤ y .view)) freshForward _ _ (s .forward) (s' .forward) (storeLocation s' a) (h .forward-long) (λ j n. h .forward-same j) (refl, le-refl 0)
               (refl, operands-low a d));
-          views-low = store-views-low k t _ _ (s .views) (s' .views) (operand-low a) (h .views-low);
+          views-low = store-views-low k t t _ _ (s .views) (s' .views) (le-refl t) (operand-low a) (h .views-low);
         }
 
     -- the promise that s' fulfils s can fulfil, if the data are the same

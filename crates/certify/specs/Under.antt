@@ -7,16 +7,8 @@ use lib.ListN.{length, getD}
 use Rattle.views.specs.Views.{viewAt}
 use Rattle.machine.specs.State.{freshRegister, freshForward}
 use Rattle.cares.specs.Cares.{Agreeing}
-use Rattle.certify.specs.Below.{Forward, Views, Thread}
-
--- the six views, each at most the other
-pub record Lower (v w : Views) : Type 0 where
-  pub rOld-low : v .rOld ≤ w .rOld
-  pub wOld-low : v .wOld ≤ w .wOld
-  pub rNew-low : v .rNew ≤ w .rNew
-  pub wNew-low : v .wNew ≤ w .wNew
-  pub cap-low : v .cap ≤ w .cap
-  pub rel-low : v .rel ≤ w .rel
+pub use Rattle.lost.specs.Lower.{Lower}
+use Rattle.certify.specs.Below.{Forward, Thread}
 
 -- the forward pairs at l: the same time, with a view that is at most the other
 abbrev pub Forwarded : List Forward → List Forward → ℕ → Type 0

@@ -1,4 +1,4 @@
-// Loads and stores of which it is known beforehand that nothing comes: a promise is lost; or a blind load tells. Blind loads read 0 with no
+// Loads and stores of which it is known beforehand that nothing comes: what is wanted is lost; or a blind load tells. Blind loads read 0 with no
 // view of their own, and leave coherence as it is. No load leaves less, so that a failure after a blind load tells of every load, wherever it
 // reads, if what is read does not count.
 ghost use mathlib.Core.Path.{_≡_};

@@ -9,6 +9,7 @@ use crate::Sought;
 use cares::barred::either;
 use cares::barred::marked;
 use cares::barred::marking;
+use lost::wanted::filling;
 use machine::Memory;
 use machine::promises::has;
 use times::after;
@@ -34,18 +35,7 @@ fn sought_at(p: u16, q: Sought) -> u16
     if !has(p, q.hole) {
         return 0;
     }
-    let top = q.met.second;
-    if top <= q.from {
-        return 0;
-    }
-    let first = q.from / 256;
-    if first != (top - 1) / 256 {
-        return 65535;
-    }
-    if 16 <= first {
-        return 0;
-    }
-    marking(0, first as u8)
+    filling(q.hole, q.from, q.met.second).places
 }
 
 // The locations of promises p and of numbers that are sought; all, if a store may append its own message, which rests on its location anyway.

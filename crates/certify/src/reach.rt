@@ -31,7 +31,7 @@ use crate::window::following;
 use cares::Cares;
 use cares::barring;
 use live::loads_ahead;
-use lost::first_lost;
+use lost::fruitless;
 use machine::Memory;
 use machine::Message;
 use machine::RuleAnswer;
@@ -146,13 +146,13 @@ pub fn search_runs(c: Code, i: u8, m: Memory, s: Thread, q: Sought) -> Reached
     }
 }
 
-// Whether it is known beforehand that nothing comes of x: a promise is lost, or x is a load that fails whatever it reads.
+// Whether it is known beforehand that nothing comes of x: what is wanted is lost, or x is a load that fails whatever it reads.
 fn blind(c: Code, i: u8, m: Memory, s: Thread, x: Instr, q: Sought) -> Blind
     requires { ⌜ Trying c m s x × Unkept s x q ⌝ }
     ensures { λ r. ⌜ (r .fails ≡ true → Found (q .from) (q .met) (λ y k. Meets c i m y (q .hole) k) s (r .found)) ⌝ }
 {
     let met = q.met;
-    let gone = first_lost(c, m, s, q.hole);
+    let gone = fruitless(c, m, s, q.hole, q.from, q.met.second);
     if gone.certain {
         let rests = gone.cares;
         return Blind {

@@ -102,9 +102,10 @@ fn passed(m: u8, x: u8, y: u8) -> u8
     if x == y { m + 1 } else { 1 }
 }
 
-// A branch that is worth to be looked at both ways: it compares two registers. With a constant, that the register is another value says enough.
-fn open(i: Instruction) -> bool {
-    (i.m != 0) & (i.k1 != 0) & (i.k2 != 0) & (i.n1 != i.n2)
+// A branch that is worth to be looked at both ways: it compares two registers, one of which was read from a message. With a constant, that the
+// register is another value says enough; and where neither was read, no other value of them is tried.
+fn open(i: Instruction, a: Register, b: Register) -> bool {
+    (i.m != 0) & (i.k1 != 0) & (i.k2 != 0) & (i.n1 != i.n2) & ((a.view != 0) | (b.view != 0))
 }
 
 // What a fence of mode m makes of the views.
@@ -174,7 +175,7 @@ pub fn straight(c: Code, s: Thread, both_ways: bool) -> Walk
         } else if i.op == 3 {
             let by = passed(i.m, a.value, b.value);
             views = views.raise_cap(larger(a.view, b.view));
-            if both_ways & open(i) {
+            if both_ways & open(i, a, b) {
                 return Walk {
                     thread: standing(s, registers, n + by, views),
                     steps: steps,

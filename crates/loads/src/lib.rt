@@ -81,7 +81,8 @@ fn if_acquire(k: LoadMode, v: u8) -> u8
     }
 }
 
-fn load_views(k: LoadMode, va: u8, post: u8, w: Views) -> Views
+// The views after a load; va is the address view.
+pub fn load_views(k: LoadMode, va: u8, post: u8, w: Views) -> Views
     ensures { λ r. ⌜ r ≡ loadViews k va post w ⌝ }
 {
     let v = if_acquire(k, post);

@@ -1,1 +1,4 @@
+pub mod Lower
+pub mod Going
+pub mod Leaving
 pub mod Losing

@@ -1,1 +1,2 @@
+pub mod Lower
 pub mod Lost

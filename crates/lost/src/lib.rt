@@ -1,25 +1,33 @@
-// Promises that are lost: no store ahead can fulfil them any more, whatever the loads before it read.
+// Messages that are lost: no store that a thread can come to can write them any more, whatever it reads before.
+pub mod ahead;
+pub mod wanted;
+
 ghost use mathlib.Core.Path.{_≡_};
 ghost use mathlib.Core.Bool.{true};
-ghost use Prim.Native.Nat.{ℕ, _^_, _≤_, _<_};
-ghost use Rattle.machine.specs.declared.Thread.{Thread};
-ghost use Rattle.cares.specs.Cares.{Marked, Agreeing};
-ghost use Rattle.lost.specs.Lost.{Unwritten, Lost, Above, Barred, LostOne};
+ghost use Prim.Native.Nat.{_≤_, _<_};
+ghost use Rattle.lost.specs.Lost.{Barred, LostIn, PromiseLost, Fruitless};
+use ahead::farther;
+use ahead::passing;
+use ahead::unwritten;
+use ahead::written;
 use cares::Cares;
 use cares::barred::marked;
 use cares::barred::marking;
 use cares::barring;
 use machine::Memory;
-use machine::Message;
 use machine::Thread;
+use machine::Views;
 use machine::promises::first;
 use machine::promises::is_empty;
 use rules::operands::address;
 use rules::operands::value_of;
 use source::Code;
 use source::Instr;
-use source::Operand;
 use stores::store_pre;
+use wanted::Wanted;
+use wanted::filling;
+use wanted::in_range;
+use wanted::out_of_range;
 
 // Whether a loss is certain, and what it rests on.
 pub struct Loss {
@@ -27,36 +35,11 @@ pub struct Loss {
     pub cares: Cares,
 }
 
-// The operand is a constant, or a register that is not in the set.
-fn unwritten(set: u16, a: Operand) -> bool
-    ensures { λ r. ⌜ (r ≡ true → Unwritten set a) ⌝ }
-{
-    match a {
-        Operand::Constant(_) => true,
-        Operand::OfRegister(n) => {
-            if 16 <= n {
-                return false;
-            }
-            !marked(set, n)
-        }
-    }
-}
-
-// The set with register r.
-fn writing(set: u16, r: u8) -> u16
-    ensures { λ w. ⌜ (r < 16 → Marked w r) × ((n : ℕ) → Marked set n → Marked w n) ⌝ }
-{
-    if 16 <= r {
-        return set;
-    }
-    marking(set, r)
-}
-
-// Whether an instruction ahead can surely not fulfil the promise of w at time u, where those before it write the registers of the set; k is
-// what was rested on before. Of its views a store ahead has at least those that the thread has now.
-fn barred(x: Instr, s: Thread, u: u8, w: Message, set: u16, k: Cares) -> Loss
-    requires { ⌜ w .location < 16 ⌝ }
-    ensures { λ r. ⌜ Barred x s u w set k r ⌝ }
+// Whether an instruction ahead can surely not write the message, where views are v at least and the registers of the set may have been written;
+// k is what was rested on before.
+fn barred(x: Instr, s: Thread, v: Views, w: Wanted, set: u16, k: Cares) -> Loss
+    requires { ⌜ w .low < 256 ⌝ }
+    ensures { λ r. ⌜ Barred x s v w set k r ⌝ }
 {
     let barred = Loss {
         certain: true,
@@ -64,18 +47,19 @@ fn barred(x: Instr, s: Thread, u: u8, w: Message, set: u16, k: Cares) -> Loss
     };
     match x {
         Instr::Store(how, a, d) => {
-            if u <= store_pre(how, 0, 0, s.views) {
+            if w.time <= store_pre(how, 0, 0, v) {
                 return barred;
             }
-            if unwritten(set, a) & (address(value_of(s, a)) != w.location) {
+            if unwritten(set, a) & !marked(w.places, address(value_of(s, a))) {
                 return Loss {
                     certain: true,
-                    cares: k.noting(a, barring(marking(0, w.location))),
+                    cares: k.noting(a, barring(w.places)),
                 };
             }
+            let stored = value_of(s, d);
             Loss {
-                certain: unwritten(set, d) & (value_of(s, d) != w.value),
-                cares: k.noting(d, 256 + w.value as u32),
+                certain: unwritten(set, d) & !in_range(stored, w),
+                cares: k.noting(d, out_of_range(stored, w)),
             }
         }
         Instr::Load(_, _, _, _) => barred,
@@ -85,26 +69,27 @@ fn barred(x: Instr, s: Thread, u: u8, w: Message, set: u16, k: Cares) -> Loss
     }
 }
 
-// Whether the promise of w at time u is surely lost.
-fn lost(c: Code, s: Thread, u: u8, w: Message) -> Loss
-    requires { ⌜ (c .count ≤ 16) × (w .location < 16) ⌝ }
-    ensures { λ r. ⌜ (r .certain ≡ true → (y : Thread) → Above s y → Agreeing (r .cares .of) s y → Lost c y u w) ⌝ }
+// Whether the message is surely lost. The instructions ahead are gone through once: what a store there finds is what the thread has now, and
+// besides what those before it leave on every way.
+fn lost(c: Code, s: Thread, w: Wanted) -> Loss
+    requires { ⌜ (c .count ≤ 16) × (w .low < 256) ⌝ }
+    ensures { λ r. ⌜ (r .certain ≡ true → LostIn c s (r .cares .of) w) ⌝ }
 {
     let mut rests = Cares { of: [0; 8] };
     let mut set = 0u16;
+    let mut v = s.views;
+    let mut far = 0u16;
     let mut at = s.position;
     while at < c.count {
-        let i = c.instructions[at as usize];
-        if i.op == 2 {
-            let r = barred(i.decode(), s, u, w, set, rests);
-            if !r.certain {
-                return r;
-            }
-            rests = r.cares;
+        let x = c.instr_at(at);
+        let r = barred(x, s, v, w, set, rests);
+        if !r.certain {
+            return r;
         }
-        if i.op < 2 {
-            set = writing(set, i.r);
-        }
+        rests = r.cares;
+        v = passing(x, v, far <= at as u16);
+        set = written(set, x);
+        far = farther(x, at, far);
         at += 1;
     }
     Loss {
@@ -113,10 +98,10 @@ fn lost(c: Code, s: Thread, u: u8, w: Message) -> Loss
     }
 }
 
-// Whether the first promise is surely lost; of the hole, which any store may fill, it is not known.
-pub fn first_lost(c: Code, m: Memory, s: Thread, hole: u8) -> Loss
+// Whether the first promise besides the hole is surely lost.
+fn promise_lost(c: Code, m: Memory, s: Thread, hole: u8) -> Loss
     requires { ⌜ (c .count ≤ 16) × (m .count ≤ 16) ⌝ }
-    ensures { λ r. ⌜ (r .certain ≡ true → LostOne c m s hole (r .cares .of)) ⌝ }
+    ensures { λ r. ⌜ (r .certain ≡ true → PromiseLost c m s hole (r .cares .of)) ⌝ }
 {
     let unknown = Loss {
         certain: false,
@@ -133,5 +118,29 @@ pub fn first_lost(c: Code, m: Memory, s: Thread, hole: u8) -> Loss
     if 16 <= w.location {
         return unknown;
     }
-    lost(c, s, u, w)
+    let value = w.value as u16;
+    lost(
+        c,
+        s,
+        Wanted {
+            time: u,
+            places: marking(0, w.location),
+            low: value,
+            high: value + 1,
+        },
+    )
+}
+
+// Whether surely nothing comes of the thread: no store ahead fills the hole by a number from `from` on and below `top`, or a promise is lost.
+pub fn fruitless(c: Code, m: Memory, s: Thread, hole: u8, from: u16, top: u16) -> Loss
+    requires { ⌜ (c .count ≤ 16) × (m .count ≤ 16) ⌝ }
+    ensures { λ r. ⌜ (r .certain ≡ true → Fruitless c m s hole from top (r .cares .of)) ⌝ }
+{
+    if hole != 0 {
+        let r = lost(c, s, filling(hole, from, top));
+        if r.certain {
+            return r;
+        }
+    }
+    promise_lost(c, m, s, hole)
 }

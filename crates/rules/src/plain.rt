@@ -46,7 +46,7 @@ pub fn branch_done(n: u8, a: Operand, b: Operand, s: Thread) -> Thread
         .advance(by)
 }
 
-fn fence_views(k: FenceMode, w: Views) -> Views
+pub fn fence_views(k: FenceMode, w: Views) -> Views
     ensures { λ r. ⌜ r ≡ fenceViews k w ⌝ }
 {
     match k {

@@ -51,7 +51,8 @@ fn if_release(k: StoreMode, t: u8) -> u8
     }
 }
 
-fn store_views(k: StoreMode, t: u8, va: u8, w: Views) -> Views
+// The views after a store at time t; va is the address view.
+pub fn store_views(k: StoreMode, t: u8, va: u8, w: Views) -> Views
     ensures { λ r. ⌜ r ≡ storeViews k t va w ⌝ }
 {
     w.raise_w_old(t).raise_rel(if_release(k, t)).raise_cap(va)

@@ -1,11 +1,13 @@
 -- `lost::barred` meets its contract: one case for each instruction, and for a store one for each way in which it cannot.
 -- Assumes nothing.
-use mathlib.Core.Path.{ap, _∙_}
+use mathlib.Core.Path.{sym, ap, subst, _∙_}
 use native.Mathlib.Omega.{arith}
-use borrow.Author.Needs.{needs}
 use Rattle.source.proofs.Counts.{storesOf}
 use Rattle.machine.specs.Rules.{address}
-use Rattle.lost.proofs.Losing.{apart, no-store, store-late, store-elsewhere, store-other}
+use Rattle.cares.specs.Cares.{Marked}
+use Rattle.lost.specs.Lost.{InRange}
+use Rattle.lost.proofs.Losing.{and-not, no-store, store-late, store-elsewhere, store-other}
+use borrow.Author.Needs.{needs}
 use Rattle.lost.proofs.barred.Statement.{statement}
 use Rattle.lost.proofs.barred.Tie as tie
 
@@ -16,7 +18,7 @@ store-pre-requires : tie.Need-store-pre-requires
 store-pre-requires c κs = search needs
 
 returns : tie.Need-returns
-returns c = let b = c .before in store-late _ _ _ _ _ _ _ _ _ (b .before .before .x .given .1) (let e = b .store-pre .ensures in let l = c .if1 .taken in omega arith)
+returns c = store-late _ _ _ _ _ _ _ _ _ (c .before .before .before .before .x .given .1) (let e = c .before .before .store-pre .ensures in let l = c .if1 .taken in omega arith)
 
 unwritten-requires : tie.Need-unwritten-requires
 unwritten-requires c κs = search needs
@@ -27,8 +29,8 @@ value-of-requires c κs = search needs
 address-requires : tie.Need-address-requires
 address-requires c κs = search needs
 
-marking-requires : tie.Need-marking-requires
-marking-requires c κs = search needs
+marked-requires : tie.Need-marked-requires
+marked-requires c κs = search needs
 
 barring-requires : tie.Need-barring-requires
 barring-requires c κs = search needs
@@ -37,23 +39,19 @@ noting-requires : tie.Need-noting-requires
 noting-requires c κs = search needs
 
 returns-2 : tie.Need-returns-2
-returns-2 c =
-    let t = c .before .before .before in
-    let b = t .before .before in
-    let f = apart _ _ _ _ (b .before .before .unwritten .ensures) (b .address .ensures .0 ∙ ap address (b .before .value-of .ensures)) (t .if2 .taken) in
-    store-elsewhere _ _ _ _ _ _ _ _ _ (b .before .before .before .before .before .before .x .given .1) (f .0) (f .1) _ _ (c .before .before .marking .ensures .0) (c .before .barring .ensures) _ (c .noting .ensures)
-
-unwritten-requires-2 : tie.Need-unwritten-requires-2
-unwritten-requires-2 c κs = search needs
+returns-2 c = let f = and-not _ _ (c .before .before .before .before .before .before .unwritten .ensures) (c .before .before .before .marked .ensures .1) (c .before .before .if2 .taken) in store-elsewhere _ _ _ _ _ _ _ _ _ (c .before .before .before .before .before .before .before .before .before .before .before .x .given .1) (f .0) (λ m. f .1 (subst (Marked (c .before .before .before .before .before .before .before .before .before .before .before .before .before .args .w .places)) (sym (c .before .before .before .before .address .ensures .0 ∙ ap address (c .before .before .before .before .before .value-of .ensures))) m)) _ (c .before .barring .ensures) _ (c .noting .ensures)
 
 value-of-requires-2 : tie.Need-value-of-requires-2
 value-of-requires-2 c κs = search needs
 
-cast-noting : tie.Need-cast-noting
-cast-noting c = search needs
+unwritten-requires-2 : tie.Need-unwritten-requires-2
+unwritten-requires-2 c κs = search needs
 
-add-noting : tie.Need-add-noting
-add-noting c = search needs
+in-range-requires : tie.Need-in-range-requires
+in-range-requires c κs = search needs
+
+out-of-range-requires : tie.Need-out-of-range-requires
+out-of-range-requires c κs = search needs
 
 noting-requires-2 : tie.Need-noting-requires-2
 noting-requires-2 c κs = search needs
@@ -71,10 +69,7 @@ enum-told-4 : tie.Need-enum-told-4
 enum-told-4 c = search needs
 
 returns-3 : tie.Need-returns-3
-returns-3 c =
-    let b = c .before .before .before in
-    let t = b .before .before .before .before .before .before .before .before .before .before in
-    store-other _ _ _ _ _ _ _ _ _ (t .x .given .1) _ (apart _ _ _ _ (b .before .unwritten2 .ensures) (b .value-of2 .ensures)) (omega arith) _ (c .noting2 .ensures)
+returns-3 c = store-other _ _ _ _ _ _ _ _ _ (c .before .before .before .before .before .before .before .before .before .before .before .before .before .before .x .given .1) _ _ (λ t. let f = and-not _ _ (c .before .before .before .unwritten2 .ensures) (c .before .before .in-range .ensures) t in (f .0, λ m. f .1 (subst (InRange (c .before .before .before .before .before .before .before .before .before .before .before .before .before .before .before .before .args .w)) (sym (c .before .before .before .before .value-of2 .ensures)) m))) (rw (c .before .before .before .before .value-of2 .ensures) at (c .before .out-of-range .ensures)) _ (c .noting2 .ensures)
 
 returns-4 : tie.Need-returns-4
 returns-4 c = no-store _ _ _ _ _ _ (ap storesOf (c .enum-told .given .1))
@@ -98,14 +93,14 @@ barred-spec =
     unwritten-requires
     value-of-requires
     address-requires
-    marking-requires
+    marked-requires
     barring-requires
     noting-requires
     returns-2
-    unwritten-requires-2
     value-of-requires-2
-    cast-noting
-    add-noting
+    unwritten-requires-2
+    in-range-requires
+    out-of-range-requires
     noting-requires-2
     enum-told
     enum-told-2

@@ -24,7 +24,7 @@ use Rattle.certify.proofs.Finding.{covers-self, covers-on}
 use Rattle.certify.proofs.Filling.{fill-no-hole, fill-none, fill-unsought, fill-here, fill-fails, alone-kept, alone-lost, hole-time, trying-filled, keeps-refused, keeps-done}
 use Rattle.certify.proofs.Missing.{knows-none, missed-none, missed-on, went-refused, went-hopeless, went-found, went-on, went-apart}
 use Rattle.certify.proofs.Owning.{owns-none, owns-untried, owns-apart, owns-stuck, owns-goes}
-use Rattle.certify.proofs.Losing.{lost-found}
+use Rattle.certify.proofs.Losing.{fruitless-found}
 use Rattle.certify.proofs.Unread.{blind-found}
 use Rattle.certify.proofs.Forking.{fork-this, fork-other, both-found}
 use Rattle.certify.proofs.Reaching.{reach-end, reach-ended, fills-meets, tried-meets, owns-meets, reach-all, straight-kept, straight-ended, straight-found, further-by, further-own}
@@ -89,7 +89,7 @@ use Rattle.certify.proofs.straight.straight.Reads as straight-reads
 use Rattle.certify.proofs.window.earliest.Reads as earliest-reads
 use Rattle.certify.proofs.window.following.Reads as following-reads
 use Rattle.live.proofs.loads_ahead.Reads as loads-ahead-reads
-use Rattle.lost.proofs.first_lost.Reads as first-lost-reads
+use Rattle.lost.proofs.fruitless.Reads as fruitless-reads
 use Rattle.machine.proofs.Memory.append.Reads as append-reads
 use Rattle.machine.proofs.promises.has.Reads as has-reads
 use Rattle.rules.proofs.execute.Reads as execute-reads
@@ -183,7 +183,7 @@ abbrev try-at-below : ℕ → In 0 try-at-kinds.ps
 try-at-below t = and 0 try-at-kinds.ps (falls 0 try-at-kinds.ps _<_ μ-try-at t) try-at.Pre
 
 abbrev blind-claims : ℕ → blind-lts.Claims
-blind-claims t = (first-lost-reads.Asked, first-lost-reads.Learnt, worth-asking-reads.Asked, worth-asking-reads.Learnt, unknown-reads.Asked, unknown-reads.Learnt, unread-reads.Asked, unread-reads.Learnt, search-runs-below t, search-runs.Post, told-reads.Asked, told-reads.Learnt)
+blind-claims t = (fruitless-reads.Asked, fruitless-reads.Learnt, worth-asking-reads.Asked, worth-asking-reads.Learnt, unknown-reads.Asked, unknown-reads.Learnt, unread-reads.Asked, unread-reads.Learnt, search-runs-below t, search-runs.Post, told-reads.Asked, told-reads.Learnt)
 
 abbrev both-ways-claims : ℕ → both-ways-lts.Claims
 both-ways-claims t = (search-runs-below t, search-runs.Post, ended-reads.Asked, ended-reads.Learnt, held-reads.Asked, held-reads.Learnt, of-register-reads.Asked, of-register-reads.Learnt, before-straight-reads.Asked, before-straight-reads.Learnt, at-position-reads.Asked, at-position-reads.Learnt, after-reads.Asked, after-reads.Learnt, is-reads.Asked, is-reads.Learnt, and-reads.Asked, and-reads.Learnt)
@@ -206,11 +206,11 @@ search-runs-claims t = (kept-reads.Asked, kept-reads.Learnt, emptied-reads.Asked
 abbrev try-at-claims : ℕ → try-at-lts.Claims
 try-at-claims t = (execute-reads.Asked, execute-reads.Learnt, after-reads.Asked, after-reads.Learnt, kept-reads.Asked, kept-reads.Learnt, emptied-reads.Asked, emptied-reads.Learnt, idle-reads.Asked, idle-reads.Learnt, lowered-reads.Asked, lowered-reads.Learnt, search-runs-below t, search-runs.Post, noted-reads.Asked, noted-reads.Learnt)
 
-blind-first-lost-requires : (t : ℕ) → blind-lts.Need-first-lost-requires (blind-claims t) (blind-at t) blind.Post
-blind-first-lost-requires t c κs = let w = c .before .pre .1 .0 in (w .ready .code-ok .short, w .ready .room)
+blind-fruitless-requires : (t : ℕ) → blind-lts.Need-fruitless-requires (blind-claims t) (blind-at t) blind.Post
+blind-fruitless-requires t c κs = let w = c .before .pre .1 .0 in (w .ready .code-ok .short, w .ready .room)
 
 blind-returns : (t : ℕ) → blind-lts.Need-returns (blind-claims t) (blind-at t) blind.Post
-blind-returns t c = λ e. lost-found _ _ _ _ (c .before .before .before .before .args .q) _ (c .before .before .first-lost .ensures (c .before .if1 .taken))
+blind-returns t c = λ e. fruitless-found _ _ _ _ (c .before .before .before .before .args .q) _ (c .before .before .fruitless .ensures (c .before .if1 .taken))
 
 blind-worth-asking-requires : (t : ℕ) → blind-lts.Need-worth-asking-requires (blind-claims t) (blind-at t) blind.Post
 blind-worth-asking-requires t c κs = let w = c .before .before .before .pre .1 .0 in let l = there _ _ _ (w .is-next) .0 in (w .ready .code-ok .short, let h = w .ready .code-ok .short in omega arith)
@@ -686,7 +686,7 @@ pub +blind+both-ways+filled+keeps+own-reached+search-at+search-runs+try-at-spec 
 +blind+both-ways+filled+keeps+own-reached+search-at+search-runs+try-at-spec =
     close μ-blind μ-both-ways μ-filled μ-keeps μ-own-reached μ-search-at μ-search-runs μ-try-at (λ t. blind-lts.spec (blind-claims t) (blind-at t)
     blind.Post
-    (blind-first-lost-requires t)
+    (blind-fruitless-requires t)
     (blind-returns t)
     (blind-worth-asking-requires t)
     (blind-unknown-requires t)

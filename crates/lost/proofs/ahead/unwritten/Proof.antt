@@ -1,4 +1,4 @@
--- `lost::unwritten` meets its contract.
+-- `lost::ahead::unwritten` meets its contract.
 -- Assumes nothing.
 use mathlib.Core.Path.{sym, subst}
 use native.Mathlib.Omega.{arith}
@@ -6,8 +6,8 @@ use lib.Dec.{T}
 use borrow.Author.Needs.{needs}
 use borrow.Author.Tests.{not-true}
 use Rattle.lost.specs.Lost.{Unwritten}
-use Rattle.lost.proofs.unwritten.Statement.{statement}
-use Rattle.lost.proofs.unwritten.Tie as tie
+use Rattle.lost.proofs.ahead.unwritten.Statement.{statement}
+use Rattle.lost.proofs.ahead.unwritten.Tie as tie
 
 enum-told : tie.Need-enum-told
 enum-told c = search needs

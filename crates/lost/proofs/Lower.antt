@@ -11,13 +11,17 @@ use lib.ListN.{length}
 use Rattle.views.specs.Views.{viewAt, raiseAt}
 use Rattle.views.proofs.Entries.{set-both}
 use Rattle.source.proofs.Tests.{and-left, and-right, and-both, below-at, below-all}
+use Rattle.source.specs.declared.LoadMode.{LoadMode}
+use Rattle.source.specs.declared.StoreMode.{StoreMode}
+use Rattle.source.specs.declared.FenceMode.{FenceMode}
+use Rattle.machine.specs.declared.Memory.{Memory}
+use Rattle.machine.specs.declared.Views.{Views}
 use Rattle.machine.specs.State.{messageAt, raiseCap}
 use Rattle.machine.specs.Rules.{address, loadPre, noneNewer, newer, ifAcquire, loadViews, storePre, ifRelease, storeViews, fenceViews}
-use Rattle.certify.specs.Below.{LoadMode, StoreMode, FenceMode, Memory, Views}
-use Rattle.certify.specs.Under.{Lower}
 use Rattle.source.specs.declared.LoadMode.the-variants.{PlainLoad, Acquire, WeakAcquire}
 use Rattle.source.specs.declared.StoreMode.the-variants.{PlainStore, Release}
 use Rattle.source.specs.declared.FenceMode.the-variants.{DmbSy, DmbLd, DmbSt, Isb}
+use Rattle.lost.specs.Lower.{Lower}
 
 -- views of two lists raised at one place
 pub raise-both : (c d : List ℕ) (i v w : ℕ) → length c ≡ length d → ((k : ℕ) → viewAt c k ≤ viewAt d k) → v ≤ w → (k : ℕ) → viewAt (raiseAt c i v) k ≤ viewAt (raiseAt d i w) k
@@ -57,15 +61,19 @@ load-views-low k va va' p q v w l r o =
       rel-low = o .rel-low;
     }
 
-pub store-views-low : (k : StoreMode) (t va va' : ℕ) (v w : Views) → va ≤ va' → Lower v w → Lower (storeViews k t va v) (storeViews k t va' w)
-store-views-low k t va va' v w l o =
+release-low : (k : StoreMode) (t t' : ℕ) → t ≤ t' → ifRelease k t ≤ ifRelease k t'
+release-low PlainStore t t' l = le-refl 0
+release-low Release t t' l = l
+
+pub store-views-low : (k : StoreMode) (t t' va va' : ℕ) (v w : Views) → t ≤ t' → va ≤ va' → Lower v w → Lower (storeViews k t va v) (storeViews k t' va' w)
+store-views-low k t t' va va' v w tl l o =
     record {
       rOld-low = o .rOld-low;
-      wOld-low = max-low _ _ _ _ (o .wOld-low) (le-refl t);
+      wOld-low = max-low _ _ _ _ (o .wOld-low) tl;
       rNew-low = o .rNew-low;
       wNew-low = o .wNew-low;
       cap-low = max-low _ _ _ _ (o .cap-low) l;
-      rel-low = max-low _ _ _ _ (o .rel-low) (le-refl (ifRelease k t));
+      rel-low = max-low _ _ _ _ (o .rel-low) (release-low k t t' tl);
     }
 
 pub cap-views-low : (va va' : ℕ) (v w : Views) → va ≤ va' → Lower v w → Lower (raiseCap va v) (raiseCap va' w)
