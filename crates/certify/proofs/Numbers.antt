@@ -3,7 +3,7 @@
 use mathlib.Core.Path.{_≡_, refl, sym, ap₂, subst, _∙_}
 use mathlib.Core.Logic.{_⊎_, inl, inr, ⊎-elim}
 use mathlib.Core.Bool.{Bool, true, false, not, cond, _&&_}
-use Prim.Native.Nat.{ℕ, _-_, _≤_, _<_}
+use Prim.Native.Nat.{ℕ, _+_, _-_, _≤_, _<_}
 use native.Mathlib.Nat.{le-refl}
 use native.Mathlib.Decide.{ℕ-discrete, decLt}
 use native.Mathlib.Omega.{arith}
@@ -11,18 +11,18 @@ use lib.Dec.{T, eqb, leb, ltb, eqb→eq, leb→le}
 use borrow.Author.Tests.{lt-ltb, le-ltb, le-leb, lt-leb, not-false}
 use Rattle.source.proofs.Tests.{eq→eqb, and-left, and-right}
 use Rattle.certify.specs.Asks.{Met, Sought, meeting, Unmet, Seeks}
-use Rattle.certify.specs.Sought.{Better, same, more, Twice, TwoLeast, Emptied}
+use Rattle.certify.specs.Sought.{Better, same, more, Twice, TwoLeast, LeastOrTwo, Emptied}
 
 pub not-both : (b : Bool) → T b → not b ≡ true → ⊥
 not-both true t z = subst T (sym z) tt
 not-both false t z = t
 
 -- ---- one number more
--- the two least of three, case by case
+-- the two least of three, or the least alone, case by case
 pub data Meeting (n : ℕ) (p : Met) (r : Met) : Type 0 where
   above : p .least ≤ n → r .least ≡ p .least → r .second ≡ n → Meeting n p r
   below : n < p .least → p .least < p .second → r .least ≡ n → r .second ≡ p .least → Meeting n p r
-  crossed : n < p .least → p .second ≤ p .least → r .least ≡ n → r .second ≡ p .second → Meeting n p r
+  single : n < p .least → p .second ≤ p .least → r .least ≡ n → r .second ≡ n → Meeting n p r
 
 pub meeting-above : (n : ℕ) (p : Met) → p .least ≤ n → meeting n p ≡ record { least = p .least; second = n }
 meeting-above n p h = rw (le-leb (p .least) n h)
@@ -30,14 +30,14 @@ meeting-above n p h = rw (le-leb (p .least) n h)
 pub meeting-below : (n : ℕ) (p : Met) → n < p .least → p .least < p .second → meeting n p ≡ record { least = n; second = p .least }
 meeting-below n p h l = rw (lt-leb (p .least) n h, lt-ltb (p .least) (p .second) l)
 
-pub meeting-crossed : (n : ℕ) (p : Met) → n < p .least → p .second ≤ p .least → meeting n p ≡ record { least = n; second = p .second }
-meeting-crossed n p h l = rw (lt-leb (p .least) n h, le-ltb (p .least) (p .second) l)
+pub meeting-single : (n : ℕ) (p : Met) → n < p .least → p .second ≤ p .least → meeting n p ≡ record { least = n; second = n }
+meeting-single n p h l = rw (lt-leb (p .least) n h, le-ltb (p .least) (p .second) l)
 
 pub meets-so : (n : ℕ) (p : Met) → Meeting n p (meeting n p)
 meets-so n p = elim (decLt n (p .least)) [
   | yes h ↦ elim (decLt (p .least) (p .second)) [
     | yes l ↦ subst (Meeting n p) (sym (meeting-below n p h l)) (below h l refl refl)
-    | no l ↦ subst (Meeting n p) (sym (meeting-crossed n p h (omega arith))) (crossed h (omega arith) refl refl)
+    | no l ↦ subst (Meeting n p) (sym (meeting-single n p h (omega arith))) (single h (omega arith) refl refl)
   ]
   | no h ↦ subst (Meeting n p) (sym (meeting-above n p (omega arith))) (above (omega arith) refl refl)
 ]
@@ -46,7 +46,7 @@ meets-so n p = elim (decLt n (p .least)) [
 meeting-narrows : (from n : ℕ) (p r : Met) → Meeting n p r → n < p .second → (k : ℕ) → Unmet from r k → Unmet from p k
 meeting-narrows from n p r (above h e f) l k u = let b = u .1 in (u .0, omega arith, λ z. u .2 (omega arith))
 meeting-narrows from n p r (below h q e f) l k u = let b = u .1 in (u .0, omega arith, λ z. omega arith)
-meeting-narrows from n p r (crossed h q e f) l k u = let b = u .1 in (u .0, omega arith, λ z. omega arith)
+meeting-narrows from n p r (single h q e f) l k u = let b = u .1 in (u .0, omega arith, λ z. omega arith)
 
 -- it is sought no more
 pub met-now : (from n : ℕ) (p : Met) → Unmet from (meeting n p) n → ⊥
@@ -55,7 +55,7 @@ met-now from n p u = go (meeting n p) (meets-so n p) u
     go : (r : Met) → Meeting n p r → Unmet from r n → ⊥
     go r (above h e f) u = let b = u .1 in omega arith
     go r (below h l e f) u = u .2 (omega arith)
-    go r (crossed h l e f) u = u .2 (omega arith)
+    go r (single h l e f) u = u .2 (omega arith)
 
 -- ---- what the code asks
 -- nothing is left between `from` and the second
@@ -91,7 +91,7 @@ module _ {from : ℕ} {P : ℕ → Type 0} where
       go : (r' : Met) → Meeting n r r' → (r .least ≡ p .least) ⊎ P (r .least) → (r' .least ≡ p .least) ⊎ P (r' .least)
       go r' (above l e f) old = subst (λ (k : ℕ). (k ≡ p .least) ⊎ P k) (sym e) old
       go r' (below l o e f) old = inr (subst P (sym e) h)
-      go r' (crossed l o e f) old = inr (subst P (sym e) h)
+      go r' (single l o e f) old = inr (subst P (sym e) h)
 
 pub better-as : {from : ℕ} {P Q : ℕ → Type 0} → ((k : ℕ) → P k → Q k) → {p r : Met} → Better from P p r → Better from Q p r
 better-as f same = same
@@ -106,57 +106,89 @@ zero-sought {P} {p} (more {r} k b v h) u n = go (meeting k r) (meets-so k r) (λ
     go r' (above l e f) old n' =
         (omega arith, elim (decLt 0 k) [ yes c ↦ omega arith | no c ↦ absurd (n' (let z : r .least ≡ 0 = omega arith in omega arith)) ], λ z. n' (omega arith))
     go r' (below l o e f) old n' = (omega arith, omega arith, λ z. n' (omega arith))
-    go r' (crossed l o e f) old n' = let b = v .1 in (omega arith, omega arith, λ z. n' (omega arith))
+    go r' (single l o e f) old n' = (omega arith, elim (decLt 0 k) [ yes c ↦ omega arith | no c ↦ absurd (n' (omega arith)) ], λ z. n' (omega arith))
 
 -- ---- from the start
--- the two least, where none is met at first
 module _ (from top : ℕ) (P : ℕ → Type 0) where
-  abbrev start : Met
-  start = record { least = top; second = top }
+  -- a number below the top is one that is sought and passes
+  abbrev Passing : ℕ → Type 0
+  Passing k = k < top → (from ≤ k) × P k
 
+  -- ---- where only the least is sought
+  -- what is known of it on the way
+  record LeastSoFar (r : Met) : Type 0 where
+    within : r .least ≤ top
+    alike : r .second ≡ r .least
+    first : Passing (r .least)
+
+  least-so-far : {r : Met} → Better from P (record { least = top; second = top }) r → LeastSoFar r
+  least-so-far same = record { within = le-refl top; alike = refl; first = λ l. absurd (omega arith) }
+  least-so-far (more {r} k b v h) = go (meeting k r) (meets-so k r) (least-so-far b)
+    where
+      go : (r' : Met) → Meeting k r r' → LeastSoFar r → LeastSoFar r'
+      go r' (above l e f) old = let same = old .alike in let b = v .1 in absurd (omega arith)
+      go r' (below l o e f) old = let same = old .alike in absurd (omega arith)
+      go r' (single l o e f) old = let w = old .within in record { within = omega arith; alike = f ∙ sym e; first = λ l. subst (λ (j : ℕ). (from ≤ j) × P j) (sym e) (v .0, h) }
+
+  -- the second is not known
+  pub only-least : (r : Met) → Twice from (record { least = top; second = top }) P r → LeastOrTwo from top P (record { least = r .least; second = 0 })
+  only-least r t =
+      let f = least-so-far (t .better) in
+      let same = f .alike in
+      record { within = f .within; first = f .first; others = λ k a b h. t .none k (a, omega arith, λ e. omega arith) h; two = λ n. absurd (n refl) }
+
+  -- ---- where two are sought
   -- what is known of them on the way
   record TwoSoFar (r : Met) : Type 0 where
-    within : r .second ≤ top
-    ordered : (r .least < r .second) ⊎ ((r .least ≡ top) × (r .second ≡ top))
-    first : r .least < top → (from ≤ r .least) × P (r .least)
-    then : r .second < top → (from ≤ r .second) × P (r .second)
+    within : (r .second ≤ top) ⊎ ((r .least ≡ top) × (r .second ≡ top + 1))
+    ordered : r .least < r .second
+    first : Passing (r .least)
+    then : Passing (r .second)
 
-  so-far : {r : Met} → Better from P start r → TwoSoFar r
-  so-far same = record { within = le-refl top; ordered = inr (refl, refl); first = λ l. absurd (omega arith); then = λ l. absurd (omega arith) }
-  so-far (more {r} k b v h) = go (meeting k r) (meets-so k r) (so-far b)
+  two-so-far : {r : Met} → Better from P (record { least = top; second = top + 1 }) r → TwoSoFar r
+  two-so-far same = record { within = inr (refl, refl); ordered = omega arith; first = λ l. absurd (omega arith); then = λ l. absurd (omega arith) }
+  two-so-far (more {r} k b v h) = go (meeting k r) (meets-so k r) (two-so-far b)
     where
       go : (r' : Met) → Meeting k r r' → TwoSoFar r → TwoSoFar r'
       go r' (above l e f) old =
-          let w = old .within in
           let b = v .1 in
           record {
-            within = omega arith;
-            ordered = inl (elim (decLt (r .least) k) [ yes o ↦ omega arith | no o ↦ absurd (v .2 (omega arith)) ]);
-            first = λ l. subst (λ (j : ℕ). (from ≤ j) × P j) (sym e) (old .first (omega arith));
+            within = inl (⊎-elim (λ w. omega arith) (λ w. let x = w .0 in let y = w .1 in absurd (v .2 (omega arith))) (old .within));
+            ordered = elim (decLt (r .least) k) [ yes o ↦ omega arith | no o ↦ absurd (v .2 (omega arith)) ];
+            first = subst Passing (sym e) (old .first);
             then = λ l. subst (λ (j : ℕ). (from ≤ j) × P j) (sym f) (v .0, h);
           }
       go r' (below l o e f) old =
-          let w = old .within in
           record {
-            within = omega arith;
-            ordered = inl (omega arith);
+            within = inl (⊎-elim (λ w. omega arith) (λ w. let x = w .0 in omega arith) (old .within));
+            ordered = omega arith;
             first = λ l. subst (λ (j : ℕ). (from ≤ j) × P j) (sym e) (v .0, h);
-            then = λ l. subst (λ (j : ℕ). (from ≤ j) × P j) (sym f) (old .first (omega arith));
+            then = subst Passing (sym f) (old .first);
           }
-      go r' (crossed l o e f) old =
-          let w = old .within in
-          let b = v .1 in
-          record {
-            within = omega arith;
-            ordered = inl (omega arith);
-            first = λ l. subst (λ (j : ℕ). (from ≤ j) × P j) (sym e) (v .0, h);
-            then = λ l. subst (λ (j : ℕ). (from ≤ j) × P j) (sym f) (old .then (omega arith));
-          }
+      go r' (single l o e f) old = let x = old .ordered in absurd (omega arith)
 
-  pub two-least : (r : Met) → Twice from start P r → TwoLeast from top P r
-  two-least r t =
-      let f = so-far (t .better) in
-      record { within = f .within; ordered = f .ordered; first = f .first; then = f .then; others = λ k a b n h. t .none k (a, b, n) h }
+  -- two are, or the top for the second
+  pub two-least : (r : Met) → Twice from (record { least = top; second = top + 1 }) P r → r .second ≤ top → LeastOrTwo from top P r
+  two-least r t w =
+      let f = two-so-far (t .better) in
+      let o = f .ordered in
+      record {
+        within = omega arith;
+        first = f .first;
+        others = λ k a b h. t .none k (a, omega arith, λ e. omega arith) h;
+        two = λ _. record { within = w; ordered = inl o; first = f .first; then = f .then; others = λ k a b n h. t .none k (a, b, n) h };
+      }
+
+  -- none is
+  pub none-met : (r : Met) → Twice from (record { least = top; second = top + 1 }) P r → top < r .second → LeastOrTwo from top P (record { least = top; second = top })
+  none-met r t w =
+      let none : (k : ℕ) → from ≤ k → k < top → P k → ⊥ = λ k a b h. ⊎-elim (λ x. omega arith) (λ x. let y = x .0 in t .none k (a, omega arith, λ e. omega arith) h) (two-so-far (t .better) .within) in
+      record {
+        within = le-refl top;
+        first = λ l. absurd (omega arith);
+        others = none;
+        two = λ _. record { within = le-refl top; ordered = inr (refl, refl); first = λ l. absurd (omega arith); then = λ l. absurd (omega arith); others = λ k a b _ h. none k a b h };
+      }
 
 -- ---- an empty promise set
 -- number 0 is met where it is sought

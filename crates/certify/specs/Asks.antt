@@ -18,9 +18,9 @@ use Rattle.certify.specs.Vacant.{Vacant}
 abbrev pub OtherValues : Memory → ℕ → ℕ → ℕ → ℕ → ℕ → Type 0
 OtherValues m p l v end r = (y u : ℕ) → Agrees r v y → T (has p u) → u < end → u ≤ m .count → (messageAt m u) .location ≡ l → (messageAt m u) .value ≡ y → v ≡ y
 
--- the two least numbers met, with n
+-- the two least numbers met, with n; where the two are the same, only the least is sought, and they stay the same
 abbrev pub meeting : ℕ → Met → Met
-meeting n p = cond (leb (p .least) n) (record { least = p .least; second = n }) (record { least = n; second = cond (ltb (p .least) (p .second)) (p .least) (p .second) })
+meeting n p = cond (leb (p .least) n) (record { least = p .least; second = n }) (record { least = n; second = cond (ltb (p .least) (p .second)) (p .least) n })
 
 -- n is from `from` on, and below the second of the numbers met and not the least
 abbrev pub Unmet : ℕ → Met → ℕ → Type 0

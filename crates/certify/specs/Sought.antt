@@ -60,6 +60,13 @@ pub record TwoLeast (from top : ℕ) (P : ℕ → Type 0) (r : Met) : Type 0 whe
   pub then : r .second < top → (from ≤ r .second) × P (r .second)
   pub others : (k : ℕ) → from ≤ k → k < r .second → (k ≡ r .least → ⊥) → P k → ⊥
 
+-- r .least is the least such number, the top if there is none; and where r .second is not 0, r are the two least
+pub record LeastOrTwo (from top : ℕ) (P : ℕ → Type 0) (r : Met) : Type 0 where
+  pub within : r .least ≤ top
+  pub first : r .least < top → (from ≤ r .least) × P (r .least)
+  pub others : (k : ℕ) → from ≤ k → k < r .least → P k → ⊥
+  pub two : (r .second ≡ 0 → ⊥) → TwoLeast from top P r
+
 -- what is met where an empty promise set is: 0 too, if it is sought
 pub record Emptied (q : Sought) (r : Met) : Type 0 where
   pub new : Seeks q 0 → r ≡ meeting 0 (q .met)

@@ -34,7 +34,8 @@ pub enum Certified {
     Refused(u8),
 }
 
-// The two least numbers that runs have met; where there are fewer, the bound below which numbers are sought.
+// The two least numbers that runs have met; where there are fewer, bounds below which numbers are sought. Where the two are the same, only the
+// least number is sought, and they stay the same.
 pub struct Met {
     pub least: u16,
     pub second: u16,
@@ -59,7 +60,7 @@ impl Met {
         }
         Met {
             least: n,
-            second: self.second,
+            second: n,
         }
     }
 
@@ -85,7 +86,7 @@ impl Met {
 }
 
 // What runs are searched for: where hole is 0, an empty promise set, which is number 0; else a store that fills the hole at that time. Sought
-// are numbers from `from` on that are below the second of those met and not the least.
+// are numbers from `from` on that are below the second of those met and not the least. Where the two are the same, only lesser ones are.
 pub struct Sought {
     pub hole: u8,
     pub from: u16,

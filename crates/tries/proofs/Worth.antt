@@ -23,7 +23,7 @@ use Rattle.machine.specs.Rules.{next, execute}
 use Rattle.machine.proofs.Cases.{was-true}
 use Rattle.live.proofs.Stores.{stores-end}
 use Rattle.certify.specs.declared.Met.{Met}
-use Rattle.certify.specs.Sought.{TwoLeast}
+use Rattle.certify.specs.Sought.{LeastOrTwo}
 use Rattle.certify.proofs.Law.{Sound}
 use Rattle.explore.specs.Explored.{Reached}
 use Rattle.explore.proofs.Kept.{reached-law}
@@ -101,10 +101,6 @@ module _ {t : Attempts} where
       go zero l h = absurd (n (omega arith))
       go (suc u) l h = a .between (suc u) (omega (arith, n)) h
 
--- the lesser of two is within the top too
-pub least-within : (from top : ℕ) (P : ℕ → Type 0) (r : Met) → TwoLeast from top P r → r .least ≤ top
-least-within from top P r two = let w = two .within in ⊎-elim (λ l. omega arith) (λ e. let f = e .0 in omega arith) (two .ordered)
-
 module _ (c : Code) (m : Memory) (s : Thread) where
   -- one number, and no other known
   pub one-ahead : (k : ℕ) → Promising c m s k → Foreseen c m s (record { next = k; then = 0 })
@@ -139,42 +135,45 @@ module _ (c : Code) (m : Memory) (s : Thread) where
       not-reached p x i (k / 256) (k % 256) (rw (h .code, h .memory, h .thread) (λ r. never (subst (Reached c m s) same r)))
 
   -- from what an exploration answers
-  module _ (from : ℕ) (r : Met) (two : TwoLeast from 4096 (Reached c m s) r) where
+  module _ (from : ℕ) (r : Met) (known : LeastOrTwo from 4096 (Reached c m s) r) where
     first-key : Next keyPromise 4096 c m s from (r .least)
     first-key =
-        let top = least-within from 4096 (Reached c m s) r two in
-        let w = two .within in
         record {
-          within = top;
-          after = λ h. elim (decLt (r .least) 4096) [ yes u ↦ two .first u .0 | no u ↦ omega arith ];
-          refused = λ p x i h k a u.
-              let low : k < r .second = ⊎-elim (λ l. omega arith) (λ e. let f = e .1 in omega arith) (two .ordered) in
-              unreached k (two .others k a low (λ e. omega arith)) p x i h;
+          within = known .within;
+          after = λ h. elim (decLt (r .least) 4096) [ yes u ↦ known .first u .0 | no u ↦ omega arith ];
+          refused = λ p x i h k a u. unreached k (known .others k a u) p x i h;
         }
 
-    second-key : Next keyPromise 4096 c m s (r .least + 1) (r .second)
-    second-key =
+    second-key : (r .second ≡ 0 → ⊥) → Next keyPromise 4096 c m s (r .least + 1) (r .second)
+    second-key n =
+        let two = known .two n in
         let w = two .within in
         record {
           within = w;
           after = λ h. ⊎-elim (λ l. omega arith) (λ e. let f = e .0 in absurd (omega arith)) (two .ordered);
           refused = λ p x i h k a u.
-              let low = two .first (omega arith) .0 in
+              let low = known .first (omega arith) .0 in
               unreached k (two .others k (omega arith) u (λ e. omega arith)) p x i h;
         }
 
-    pub next-explored : m .count < 16 → Next stepAt 4113 c m s (from + 17) (r .least + 17) × Foreseen c m s (record { next = r .least + 17; then = r .second + 17 })
-    next-explored few = (
+    first-kept : m .count < 16 → Promising c m s (r .least + 17)
+    first-kept few l u = (few, subst (Reached c m s) (omega arith) (known .first (omega arith) .1))
+
+    -- one promise
+    pub one-explored : m .count < 16 → Next stepAt 4113 c m s (from + 17) (r .least + 17) × Foreseen c m s (record { next = r .least + 17; then = 0 })
+    one-explored few = (next-key from (r .least) first-key, one-ahead (r .least + 17) (first-kept few))
+
+    -- two of them
+    pub two-explored : m .count < 16 → (r .second ≡ 0 → ⊥)
+        → Next stepAt 4113 c m s (from + 17) (r .least + 17) × Foreseen c m s (record { next = r .least + 17; then = r .second + 17 })
+    two-explored few n = (
       next-key from (r .least) first-key,
       record {
-        next-kept = λ l u. (few, subst (Reached c m s) (back (r .least)) (two .first (omega arith) .1));
-        then-kept = λ l u. (few, subst (Reached c m s) (back (r .second)) (two .then (omega arith) .1));
-        then-next = λ n. subst (λ (k : ℕ). Next stepAt 4113 c m s k (r .second + 17)) (omega arith) (next-key (r .least + 1) (r .second) second-key);
+        next-kept = first-kept few;
+        then-kept = λ l u. (few, subst (Reached c m s) (omega arith) (known .two n .then (omega arith) .1));
+        then-next = λ _. subst (λ (k : ℕ). Next stepAt 4113 c m s k (r .second + 17)) (omega arith) (next-key (r .least + 1) (r .second) (second-key n));
       },
     )
-      where
-        back : (k : ℕ) → k ≡ k + 17 - 17
-        back k = omega arith
 
   pub past-times : (from : ℕ) (r : Ahead) → 17 ≤ from → Next stepAt 4113 c m s (from - 17 + 17) (r .next) × Foreseen c m s r → Next stepAt 4113 c m s from (r .next) × Foreseen c m s r
   past-times from r h nx = (subst (λ (k : ℕ). Next stepAt 4113 c m s k (r .next)) (omega arith) (nx .0), nx .1)

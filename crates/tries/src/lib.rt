@@ -44,7 +44,7 @@ pub struct Attempts {
     pub promises: bool,
 }
 
-// The next number that is worth a try, and the one after it if that is known already, else 0: an exploration finds two promises at once.
+// The next number that is worth a try, and the one after it if that is known already, else 0: an exploration may find two promises at once.
 pub struct Ahead {
     pub next: u16,
     pub then: u16,
@@ -135,8 +135,15 @@ fn next_promises(t: Attempts, c: Code, m: Memory, s: Thread, from: u16) -> Ahead
         };
     }
     let met = next_reached(c, m, s, from);
+    let next = met.least + 17;
+    if met.second == 0 {
+        return Ahead {
+            next: next,
+            then: 0,
+        };
+    }
     Ahead {
-        next: met.least + 17,
+        next: next,
         then: met.second + 17,
     }
 }

@@ -1,28 +1,24 @@
 -- `explore::next_reached` meets its contract.
 -- Assumes nothing.
-use Rattle.certify.proofs.Trying.{ready-promised, with-room}
-use Rattle.certify.proofs.Numbers.{two-least}
-use Rattle.explore.specs.Explored.{hole}
 use borrow.Author.Needs.{needs}
+use Rattle.certify.proofs.Numbers.{only-least, two-least, none-met}
 use Rattle.explore.proofs.next_reached.Statement.{statement}
 use Rattle.explore.proofs.next_reached.Tie as tie
 
-append-requires : tie.Need-append-requires
-append-requires c κs = search needs
+nothing-met-requires : tie.Need-nothing-met-requires
+nothing-met-requires c κs = search needs
 
-with-requires : tie.Need-with-requires
-with-requires c κs = rw (c .append .ensures) (with-room _ _ _ (c .before .pre .0) (c .before .pre .1))
-
-with-promises-requires : tie.Need-with-promises-requires
-with-promises-requires c κs = search needs
-
-two-reached-requires : tie.Need-two-reached-requires
-two-reached-requires c κs = rw (c .with-promises .ensures, c .before .with .ensures, c .before .before .append .ensures) (ready-promised _ _ _ (c .before .before .before .pre .0) (c .before .before .before .pre .1) hole)
+reached-after-requires : tie.Need-reached-after-requires
+reached-after-requires c κs = search needs
 
 returns : tie.Need-returns
-returns c = two-least _ _ _ _ (rw (c .before .with-promises .ensures, c .before .before .with .ensures, c .before .before .before .append .ensures) at (c .two-reached .ensures))
+returns c = only-least _ _ _ _ (rw (c .before .before .nothing-met .ensures, c .if1 .taken) at (c .before .reached-after .ensures))
+
+returns-2 : tie.Need-returns-2
+returns-2 c = two-least _ _ _ _ (rw (c .before .before .before .before .nothing-met .ensures, c .before .before .if1 .left) at (c .before .before .before .reached-after .ensures)) (c .if2 .taken)
+
+returns-3 : tie.Need-returns-3
+returns-3 c = none-met _ _ _ _ (rw (c .before .before .before .before .nothing-met .ensures, c .before .before .if1 .left) at (c .before .before .before .reached-after .ensures)) (c .if2 .left)
 
 pub next-reached-spec : {M : Type 1} → statement M
-next-reached-spec =
-    tie.close
-    (tie.spec append-requires with-requires with-promises-requires two-reached-requires returns)
+next-reached-spec = tie.close (tie.spec nothing-met-requires reached-after-requires returns returns-2 returns-3)

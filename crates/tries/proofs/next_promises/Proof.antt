@@ -3,7 +3,7 @@
 use mathlib.Core.Path.{refl}
 use native.Mathlib.Omega.{arith}
 use Rattle.machine.proofs.Cases.{was-false}
-use Rattle.tries.proofs.Worth.{none-promised, next-full, least-within, next-explored}
+use Rattle.tries.proofs.Worth.{none-promised, next-full, one-explored, two-explored}
 use Rattle.tries.proofs.next_promises.Statement.{statement}
 use Rattle.tries.proofs.next_promises.Tie as tie
 
@@ -16,14 +16,17 @@ returns-2 c = next-full _ _ _ _ (c .if2 .taken)
 next-reached-requires : tie.Need-next-reached-requires
 next-reached-requires c κs = (c .before .before .before .before .pre .0, c .if2 .left)
 
-add-next : tie.Need-add-t8
-add-next c = let h = least-within _ _ _ _ (c .before .next-reached .ensures) in omega arith
-
-add-then : tie.Need-add-t9
-add-then c = let h = c .before .before .next-reached .ensures .within in omega arith
+add-next : tie.Need-add-next
+add-next c = let h = c .before .next-reached .ensures .within in omega arith
 
 returns-3 : tie.Need-returns-3
-returns-3 c = next-explored _ _ _ _ _ (c .before .before .next-reached .ensures) (c .before .before .before .if2 .left)
+returns-3 c = one-explored _ _ _ _ _ (c .before .before .before .next-reached .ensures) (c .before .before .before .before .if2 .left)
+
+add-then : tie.Need-add-t9
+add-then c = let h = c .before .before .before .before .next-reached .ensures .two (c .before .if3 .left) .within in omega arith
+
+returns-4 : tie.Need-returns-4
+returns-4 c = two-explored _ _ _ _ _ (c .before .before .before .before .next-reached .ensures) (c .before .before .before .before .before .if2 .left) (c .before .if3 .left)
 
 pub next-promises-spec : {M : Type 1} → statement M
-next-promises-spec = tie.close (tie.spec returns returns-2 next-reached-requires add-next add-then returns-3)
+next-promises-spec = tie.close (tie.spec returns returns-2 next-reached-requires add-next returns-3 add-then returns-4)

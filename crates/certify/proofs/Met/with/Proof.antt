@@ -1,7 +1,7 @@
 -- `certify::Met::with` meets its contract.
 -- Assumes nothing.
 use mathlib.Core.Path.{sym}
-use Rattle.certify.proofs.Numbers.{meeting-above, meeting-below, meeting-crossed}
+use Rattle.certify.proofs.Numbers.{meeting-above, meeting-below, meeting-single}
 use Rattle.certify.proofs.Met.with.Statement.{statement}
 use Rattle.certify.proofs.Met.with.Tie as tie
 
@@ -12,7 +12,7 @@ returns-2 : tie.Need-returns-2
 returns-2 c = sym (meeting-below _ _ (c .before .before .if1 .left) (c .if2 .taken))
 
 returns-3 : tie.Need-returns-3
-returns-3 c = sym (meeting-crossed _ _ (c .before .before .if1 .left) (c .if2 .left))
+returns-3 c = sym (meeting-single _ _ (c .before .before .if1 .left) (c .if2 .left))
 
 pub with-spec : {M : Type 1} → statement M
 with-spec = tie.close (tie.spec returns returns-2 returns-3)
