@@ -2,6 +2,7 @@
 mod asks;
 mod blind;
 mod checked;
+mod goal;
 mod idle;
 mod places;
 pub mod reach;

@@ -5,8 +5,8 @@ ghost use Prim.Native.Nat.{_≤_, _<_};
 ghost use Rattle.cares.specs.Cares.{Covers};
 ghost use Rattle.certify.specs.Answers.{Ready, Trying};
 ghost use Rattle.certify.specs.Asks.{Stores};
-ghost use Rattle.certify.specs.Straight.{Forked, Walked, atPosition};
-ghost use Rattle.certify.specs.Sought.{fill, Meets, Owns, Emptied, Twice, Found, Unkept, Filled, Keeps, Appends, Knows, Went};
+ghost use Rattle.certify.specs.Straight.{Forked, Walked};
+ghost use Rattle.certify.specs.Sought.{Meets, Owns, Twice, Found, Unkept, Filled, Keeps, Appends, Knows, Went};
 use crate::Met;
 use crate::Sought;
 use crate::asks::asks;
@@ -15,10 +15,14 @@ use crate::blind::told;
 use crate::blind::unknown;
 use crate::blind::unread;
 use crate::blind::worth_asking;
+use crate::goal::emptied;
+use crate::goal::fill;
+use crate::goal::kept;
 use crate::idle::idle;
 use crate::idle::lowered;
 use crate::own_message;
 use crate::straight::Walk;
+use crate::straight::at_position;
 use crate::straight::before_straight;
 use crate::straight::halts;
 use crate::straight::straight;
@@ -33,11 +37,9 @@ use cares::barring;
 use live::loads_ahead;
 use lost::fruitless;
 use machine::Memory;
-use machine::Message;
 use machine::RuleAnswer;
 use machine::Thread;
 use machine::promises::has;
-use machine::promises::is_empty;
 use rules::execute;
 use rules::operands::view_of;
 use rules::own_store;
@@ -60,44 +62,6 @@ pub struct Tried {
     pub cares: Cares,
     pub counted: [u32; 17],
     pub apart: bool,
-}
-
-// An empty promise set is sought, and here it is.
-fn kept(s: Thread, q: Sought) -> bool
-    ensures { λ r. ⌜ (r ≡ true → (q .hole ≡ 0) × (s .promises ≡ 0)) × (r ≡ false → q .hole ≡ 0 → s .promises ≡ 0 → ⊥) ⌝ }
-{
-    if q.hole != 0 {
-        return false;
-    }
-    is_empty(s.promises)
-}
-
-// What is met where an empty promise set is.
-fn emptied(q: Sought) -> Met
-    ensures { λ r. ⌜ Emptied q r ⌝ }
-{
-    let met = q.met;
-    if q.seeks(0) {
-        return met.with(0);
-    }
-    met
-}
-
-// The memory with w in place of the message at time h.
-fn fill(mut m: Memory, h: u8, w: Message) -> Memory
-    requires { ⌜ (0 < h) × (h ≤ 16) ⌝ }
-    ensures { λ r. ⌜ r ≡ fill m h w ⌝ }
-{
-    m.messages[(h - 1) as usize] = w;
-    m
-}
-
-// The thread at position n.
-fn at_position(mut s: Thread, n: u8) -> Thread
-    ensures { λ r. ⌜ r ≡ atPosition s n ⌝ }
-{
-    s.position = n;
-    s
 }
 
 // The two least numbers that runs from here come to, of those that are sought.

@@ -11,7 +11,7 @@ ghost use Rattle.machine.specs.State.{freshRegister};
 ghost use Rattle.machine.specs.Rules.{valueOf, viewOf, combine, branchBy, fenceViews};
 ghost use Rattle.certify.specs.Below.{Code, Thread};
 ghost use Rattle.certify.specs.Under.{Rests};
-ghost use Rattle.certify.specs.Straight.{Leads, Halts, resultOf, stepOver, standing, Walked, Ended};
+ghost use Rattle.certify.specs.Straight.{Leads, Halts, resultOf, stepOver, standing, Walked, Ended, atPosition};
 use cares::Cares;
 use cares::before::Step;
 use cares::before::before_branch;
@@ -130,6 +130,14 @@ fn standing(mut s: Thread, registers: [Register; 8], n: u8, views: Views) -> Thr
     s.registers = registers;
     s.position = n;
     s.views = views;
+    s
+}
+
+// The thread at position n.
+pub fn at_position(mut s: Thread, n: u8) -> Thread
+    ensures { λ r. ⌜ r ≡ atPosition s n ⌝ }
+{
+    s.position = n;
     s
 }
 

@@ -75,11 +75,11 @@ use Rattle.certify.proofs.idle.idle.Reads as idle-reads
 use Rattle.certify.proofs.idle.lowered.Reads as lowered-reads
 use Rattle.certify.proofs.own_message.Reads as own-message-reads
 use Rattle.certify.proofs.tried.appends.Reads as appends-reads
-use Rattle.certify.proofs.reach.at_position.Reads as at-position-reads
-use Rattle.certify.proofs.reach.emptied.Reads as emptied-reads
-use Rattle.certify.proofs.reach.fill.Reads as fill-reads
+use Rattle.certify.proofs.straight.at_position.Reads as at-position-reads
+use Rattle.certify.proofs.goal.emptied.Reads as emptied-reads
+use Rattle.certify.proofs.goal.fill.Reads as fill-reads
 use Rattle.certify.proofs.tried.hopeless.Reads as hopeless-reads
-use Rattle.certify.proofs.reach.kept.Reads as kept-reads
+use Rattle.certify.proofs.goal.kept.Reads as kept-reads
 use Rattle.certify.proofs.tried.noted.Reads as noted-reads
 use Rattle.certify.proofs.tried.untried.Reads as untried-reads
 use Rattle.certify.proofs.straight.Walk.held.Reads as held-reads

@@ -1,9 +1,9 @@
--- `certify::reach::emptied` meets its contract.
+-- `certify::goal::emptied` meets its contract.
 -- Assumes nothing.
 use mathlib.Core.Path.{refl}
 use borrow.Author.Needs.{needs}
-use Rattle.certify.proofs.reach.emptied.Statement.{statement}
-use Rattle.certify.proofs.reach.emptied.Tie as tie
+use Rattle.certify.proofs.goal.emptied.Statement.{statement}
+use Rattle.certify.proofs.goal.emptied.Tie as tie
 use Rattle.certify.proofs.Met.with.Reads as with-reads
 use Rattle.certify.proofs.Sought.seeks.Reads as seeks-reads
 

@@ -1,11 +1,11 @@
--- `certify::reach::kept` meets its contract.
+-- `certify::goal::kept` meets its contract.
 -- Assumes nothing.
 use mathlib.Core.Path.{sym, subst}
 use lib.Dec.{T}
 use Rattle.certify.proofs.Numbers.{is-kept}
 use borrow.Author.Needs.{needs}
-use Rattle.certify.proofs.reach.kept.Statement.{statement}
-use Rattle.certify.proofs.reach.kept.Tie as tie
+use Rattle.certify.proofs.goal.kept.Statement.{statement}
+use Rattle.certify.proofs.goal.kept.Tie as tie
 use Rattle.machine.proofs.promises.is_empty.Reads as is-empty-reads
 
 returns : tie.Need-returns
