@@ -12,6 +12,7 @@ use cares::Cares;
 use live::steering::steers;
 use loads::load_done;
 use loads::load_pre;
+use lost::telling::telling;
 use machine::Memory;
 use machine::Thread;
 use rules::operands::view_of_both;
@@ -87,4 +88,17 @@ pub fn worth_asking(x: Instr, c: Code, s: Thread) -> bool
         Instr::Branch(_, _, _) => false,
         Instr::Fence(_) => false,
     }
+}
+
+// Whether it is worth to ask beforehand what can come of x. With fewer messages about, the tries themselves are quick.
+pub fn worth_a_look(x: Instr, c: Code, m: Memory, s: Thread) -> bool
+    requires { ⌜ (c .count ≤ 16) × (s .position < 16) ⌝ }
+{
+    if m.count < 12 {
+        return false;
+    }
+    if telling(c, s.position) {
+        return true;
+    }
+    worth_asking(x, c, s)
 }

@@ -14,6 +14,7 @@ use crate::blind::Blind;
 use crate::blind::told;
 use crate::blind::unknown;
 use crate::blind::unread;
+use crate::blind::worth_a_look;
 use crate::blind::worth_asking;
 use crate::goal::emptied;
 use crate::goal::fill;
@@ -180,7 +181,7 @@ fn search_at(c: Code, i: u8, m: Memory, s: Thread, x: Instr, q: Sought) -> Reach
     requires { ⌜ Trying c m s x × Unkept s x q ⌝ }
     ensures { λ r. ⌜ Found (q .from) (q .met) (λ y k. Meets c i m y (q .hole) k) s r ⌝ }
 {
-    if 12 <= m.count {
+    if worth_a_look(x, c, m, s) {
         let b = blind(c, i, m, s, x, q);
         if b.fails {
             return b.found;

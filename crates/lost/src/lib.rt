@@ -1,6 +1,6 @@
 // Messages that are lost: no store that a thread can come to can write them any more, whatever it reads before.
 pub mod ahead;
-mod telling;
+pub mod telling;
 pub mod wanted;
 
 ghost use mathlib.Core.Path.{_≡_};
@@ -25,7 +25,6 @@ use rules::operands::value_of;
 use source::Code;
 use source::Instr;
 use stores::store_pre;
-use telling::telling;
 use wanted::Wanted;
 use wanted::filling;
 use wanted::in_range;
@@ -133,18 +132,11 @@ fn promise_lost(c: Code, m: Memory, s: Thread, hole: u8) -> Loss
     )
 }
 
-// Whether surely nothing comes of the thread: no store ahead fills the hole by a number from `from` on and below `top`, or a promise is lost. It
-// is asked for again only where the last instruction can make a difference.
+// Whether surely nothing comes of the thread: no store ahead fills the hole by a number from `from` on and below `top`, or a promise is lost.
 pub fn fruitless(c: Code, m: Memory, s: Thread, hole: u8, from: u16, top: u16) -> Loss
     requires { ⌜ (c .count ≤ 16) × (m .count ≤ 16) ⌝ }
     ensures { λ r. ⌜ (r .certain ≡ true → Fruitless c m s hole from top (r .cares .of)) ⌝ }
 {
-    if !telling(c, s.position) {
-        return Loss {
-            certain: false,
-            cares: Cares { of: [0; 8] },
-        };
-    }
     if hole != 0 {
         let r = lost(c, s, filling(hole, from, top));
         if r.certain {

@@ -27,10 +27,13 @@ fn feeds(c: Code, n: u8, r: u8) -> bool
 }
 
 // The instruction before position n makes a difference to what can be seen of the stores ahead. A compute or a plain load does so only by the
-// register that it writes; the answer before it has just been no.
+// register that it writes; the answer before it has just been no. The last instruction is tried as quickly as it is looked at.
 pub fn telling(c: Code, n: u8) -> bool
     requires { ⌜ c .count ≤ 16 ⌝ }
 {
+    if c.count as u16 <= n as u16 + 1 {
+        return false;
+    }
     if n == 0 {
         return true;
     }

@@ -70,6 +70,7 @@ use Rattle.certify.proofs.asks.asks.Reads as asks-reads
 use Rattle.certify.proofs.blind.told.Reads as told-reads
 use Rattle.certify.proofs.blind.unknown.Reads as unknown-reads
 use Rattle.certify.proofs.blind.unread.Reads as unread-reads
+use Rattle.certify.proofs.blind.worth_a_look.Reads as worth-a-look-reads
 use Rattle.certify.proofs.blind.worth_asking.Reads as worth-asking-reads
 use Rattle.certify.proofs.idle.idle.Reads as idle-reads
 use Rattle.certify.proofs.idle.lowered.Reads as lowered-reads
@@ -198,7 +199,7 @@ abbrev own-reached-claims : ℕ → own-reached-lts.Claims
 own-reached-claims t = (barring-reads.Asked, barring-reads.Learnt, noting-reads.Asked, noting-reads.Learnt, own-store-reads.Asked, own-store-reads.Learnt, own-message-reads.Asked, own-message-reads.Learnt, append-reads.Asked, append-reads.Learnt, search-runs-below t, search-runs.Post, loads-ahead-reads.Asked, loads-ahead-reads.Learnt, and-reads.Asked, and-reads.Learnt)
 
 abbrev search-at-claims : ℕ → search-at-lts.Claims
-search-at-claims t = (blind-below t, blind.Post, earliest-reads.Asked, earliest-reads.Learnt, filled-below t, filled.Post, untried-reads.Asked, untried-reads.Learnt, hopeless-reads.Asked, hopeless-reads.Learnt, try-at-below t, try-at.Post, ended-reads.Asked, ended-reads.Learnt, following-reads.Asked, following-reads.Learnt, appends-reads.Asked, appends-reads.Learnt, after-reads.Asked, after-reads.Learnt, own-reached-below t, own-reached.Post, asks-reads.Asked, asks-reads.Learnt, and-reads.Asked, and-reads.Learnt)
+search-at-claims t = (worth-a-look-reads.Asked, worth-a-look-reads.Learnt, blind-below t, blind.Post, earliest-reads.Asked, earliest-reads.Learnt, filled-below t, filled.Post, untried-reads.Asked, untried-reads.Learnt, hopeless-reads.Asked, hopeless-reads.Learnt, try-at-below t, try-at.Post, ended-reads.Asked, ended-reads.Learnt, following-reads.Asked, following-reads.Learnt, appends-reads.Asked, appends-reads.Learnt, after-reads.Asked, after-reads.Learnt, own-reached-below t, own-reached.Post, asks-reads.Asked, asks-reads.Learnt, and-reads.Asked, and-reads.Learnt)
 
 abbrev search-runs-claims : ℕ → search-runs-lts.Claims
 search-runs-claims t = (kept-reads.Asked, kept-reads.Learnt, emptied-reads.Asked, emptied-reads.Learnt, halts-reads.Asked, halts-reads.Learnt, instr-at-reads.Asked, instr-at-reads.Learnt, search-at-below t, search-at.Post, straight-reads.Asked, straight-reads.Learnt, both-ways-below t, both-ways.Post, search-runs-below t, search-runs.Post, ended-reads.Asked, ended-reads.Learnt, before-straight-reads.Asked, before-straight-reads.Learnt)
@@ -512,6 +513,9 @@ search-at-Inv-loop c i m s x q t₀ r₀ t r = Missed c i m s x q r 0 t × (Bett
 abbrev search-at-μ-loop : search-at-lts.MeasureT-loop
 search-at-μ-loop c i m s x q t₀ r₀ t r = 17 - t
 
+search-at-worth-a-look-requires : (t : ℕ) → search-at-lts.Need-worth-a-look-requires (search-at-claims t) (search-at-at t) search-at.Post search-at-Inv-loop search-at-μ-loop
+search-at-worth-a-look-requires t c κs = let w = c .pre .1 .0 in let h = w .ready .code-ok .short in let l = there _ _ _ (w .is-next) .0 in (h, omega arith)
+
 search-at-blind-requires : (t : ℕ) → search-at-lts.Need-blind-requires (search-at-claims t) (search-at-at t) search-at.Post search-at-Inv-loop search-at-μ-loop
 search-at-blind-requires t c κs = (omega (arith, c .before .before .pre .0), c .before .before .pre .1)
 
@@ -797,6 +801,7 @@ pub +blind+both-ways+filled+keeps+own-reached+search-at+search-runs+try-at-spec 
     search-at.Post
     search-at-Inv-loop
     search-at-μ-loop
+    (search-at-worth-a-look-requires t)
     (search-at-blind-requires t)
     (search-at-returns t)
     (search-at-earliest-requires t)
