@@ -96,12 +96,13 @@ fn examples_to_the_end() {
 }
 
 /// The files that take longest: with the budget of their benchmark as the twin's recorded answer says, and
-/// with a quarter of it as the twin itself, which in an emulator would take minutes for the whole.
+/// with 40 of it, which most of the long explorations need, as the twin itself: for the whole it would take
+/// minutes in an emulator.
 #[test]
 fn worst_files() {
     for vector in worst::files() {
         let search = |budget| Call::Search { file: vector.file.clone(), budget, area: 500 };
-        for budget in [1, worst::BUDGET / 4] {
+        for budget in [1, 40] {
             let call = search(budget);
             assert_eq!(call.ask(&Library, 12), call.ask(&Twin, 12), "{} {budget}", vector.name);
         }
