@@ -2,16 +2,16 @@
 -- Assumes nothing.
 use mathlib.Core.Path.{_≡_, refl, sym, ap₂, subst, _∙_}
 use mathlib.Core.Logic.{_⊎_, inl, inr, ⊎-elim}
-use mathlib.Core.Bool.{Bool, true, false, not, cond, _&&_}
+use mathlib.Core.Bool.{Bool, true, false, not, _&&_}
 use Prim.Native.Nat.{ℕ, _+_, _-_, _≤_, _<_}
 use native.Mathlib.Nat.{le-refl}
 use native.Mathlib.Decide.{ℕ-discrete, decLt}
 use native.Mathlib.Omega.{arith}
-use lib.Dec.{T, eqb, leb, ltb, eqb→eq, leb→le}
+use lib.Dec.{T, eqb, leb, eqb→eq, leb→le}
 use borrow.Author.Tests.{lt-ltb, le-ltb, le-leb, lt-leb, not-false}
 use Rattle.source.proofs.Tests.{eq→eqb, and-left, and-right}
 use Rattle.certify.specs.Asks.{Met, Sought, meeting, Unmet, Seeks}
-use Rattle.certify.specs.Sought.{Better, same, more, Twice, TwoLeast, LeastOrTwo, Emptied}
+use Rattle.certify.specs.Sought.{Better, same, more, Twice, LeastOrTwo, Emptied}
 
 pub not-both : (b : Bool) → T b → not b ≡ true → ⊥
 not-both true t z = subst T (sym z) tt

@@ -1,9 +1,8 @@
 -- Where a thread can come to, and what an instruction leaves there.
 -- Assumes nothing.
-use mathlib.Core.Path.{_≡_, refl, sym, ap, subst, _∙_}
+use mathlib.Core.Path.{_≡_, refl, sym, ap, subst}
 use mathlib.Core.Logic.{_⊎_, inl, inr}
 use mathlib.Core.Bool.{Bool, true, false}
-use mathlib.Core.Option.{some}
 use Prim.Native.Nat.{ℕ, _+_, _≤_, _<_}
 use native.Mathlib.Nat.{le-refl, le-trans}
 use native.Mathlib.Decide.{decLt}
@@ -14,16 +13,14 @@ use Rattle.source.specs.declared.Code.{Code}
 use Rattle.source.specs.declared.Operand.{Operand}
 use Rattle.source.specs.declared.FenceMode.{FenceMode}
 use Rattle.source.specs.declared.FenceMode.the-variants.{DmbSy, DmbLd, DmbSt, Isb}
-use Rattle.source.specs.declared.StoreMode.{StoreMode}
 use Rattle.source.specs.declared.Instr.{Instr}
 use Rattle.source.specs.declared.Instr.the-variants.{Branch}
-use Rattle.source.specs.Program.{instrAt}
 use Rattle.machine.specs.declared.Memory.{Memory}
 use Rattle.machine.specs.declared.Register.{Register}
 use Rattle.machine.specs.declared.Thread.{Thread}
 use Rattle.machine.specs.declared.Views.{Views}
 use Rattle.machine.specs.State.{freshRegister, withPromises}
-use Rattle.machine.specs.Rules.{next, valueOf, branchBy, storePre, fenceViews, execute}
+use Rattle.machine.specs.Rules.{valueOf, branchBy, fenceViews}
 use Rattle.machine.proofs.Effects.{Effect, computed, loaded, stored, branched, fenced, effect, moves}
 use Rattle.cares.specs.Cares.{held}
 use Rattle.lost.specs.Lower.{Lower}

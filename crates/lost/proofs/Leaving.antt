@@ -4,17 +4,16 @@ use mathlib.Core.Path.{_≡_}
 use Prim.Native.Nat.{ℕ, _≤_, _<_}
 use native.Mathlib.Omega.{arith}
 use Rattle.source.specs.declared.Operand.{Operand}
-use Rattle.source.specs.declared.ComputeMode.{ComputeMode}
 use Rattle.source.specs.declared.LoadMode.{LoadMode}
 use Rattle.source.specs.declared.StoreMode.{StoreMode}
 use Rattle.source.specs.declared.FenceMode.{FenceMode}
 use Rattle.source.specs.declared.Instr.{Instr}
-use Rattle.source.specs.declared.Instr.the-variants.{Compute, Load, Store, Branch, Fence}
+use Rattle.source.specs.declared.Instr.the-variants.{Load, Store, Fence}
 use Rattle.machine.specs.declared.Memory.{Memory}
 use Rattle.machine.specs.declared.Thread.{Thread}
 use Rattle.machine.specs.declared.Views.{Views}
 use Rattle.machine.specs.Rules.{viewOf, viewOf₂, loadPre, loadViews, storePre, storeViews, fenceViews}
-use Rattle.machine.proofs.Effects.{Effect, computed, loaded, stored, branched, fenced, effect, loadPostView}
+use Rattle.machine.proofs.Effects.{Effect, loaded, stored, fenced, effect, loadPostView}
 use Rattle.lost.specs.Lower.{Lower}
 use Rattle.lost.specs.Lost.{Leaves}
 use Rattle.lost.proofs.Lower.{pre-low, store-pre-low, load-views-low, store-views-low, fence-views-low}

@@ -21,14 +21,15 @@ use Rattle.source.proofs.Tests.{or-left, or-right, is-false, eq→eqb}
 use Rattle.source.proofs.Counts.{there, storesOf}
 use Rattle.machine.specs.declared.Thread.{Thread}
 use Rattle.machine.specs.declared.Views.{Views}
-use Rattle.machine.specs.Rules.{valueOf, address, storePre}
-use Rattle.cares.specs.Cares.{Marked, Agrees, Agreeing, Covers}
+use Rattle.machine.specs.State.{withPromises}
+use Rattle.machine.specs.Rules.{next, valueOf, address, storePre, execute}
+use Rattle.cares.specs.Cares.{Marked, Agrees, held, Agreeing, Covers}
 use Rattle.cares.specs.declared.Cares.{Cares}
 use Rattle.cares.proofs.Agreeing.{not-barred, same-value, not-that, not-less, less}
 use Rattle.lost.specs.Lower.{Lower}
-use Rattle.lost.specs.Lost.{Loss, Wanted, Goes, Arrives, InRange, Misses, late, elsewhere, other, NextMisses, Lost, Writes, Unwritten, Holding, Writing, Passing, Farther, Above, Barred, LostIn}
+use Rattle.lost.specs.Lost.{Loss, Wanted, Goes, Arrives, InRange, Misses, late, elsewhere, other, NextMisses, Writes, Unwritten, Holding, Writing, Passing, Farther, Above, Barred, LostIn}
 use Rattle.lost.proofs.Lower.{store-pre-low}
-use Rattle.lost.proofs.Going.{lower-trans, goes-on, goes-views, goes-holds, goes-lands, arrives-on, Crosses, first, over, crosses-here, crosses-next}
+use Rattle.lost.proofs.Going.{lower-trans, goes-views, goes-holds, goes-lands, arrives-on, Crosses, first, over, crosses-here, crosses-next}
 
 -- ---- tests
 -- neither passed: a time is not the hole, and it is in the memory
@@ -72,8 +73,8 @@ module _ (x : Instr) (s : Thread) (v : Views) (w : Wanted) (set : ℕ) (before :
   no-store n = record { covers = record { agreeing = λ s s' g. g }; bars = λ e y o g z l h k a d is. absurd (let i = ap storesOf is in omega arith) }
 
   -- where it is certain
-  pub certainly : (r : Loss) → r .certain ≡ true → Barred x s v w set before r → Barred x s v w set before (record { certain = true; cares = r .cares })
-  certainly r sure b = record { covers = b .covers; bars = λ e. b .bars sure }
+  pub certainly : (r : Loss) → r .certain ≡ true → Barred x s v w set before r → (cares : Cares) → cares ≡ r .cares → Barred x s v w set before (record { certain = true; cares = cares })
+  certainly r sure b cares e = rw e (record { covers = b .covers; bars = λ t. b .bars sure })
 
   module _ (how : StoreMode) (a d : Operand) (is : x ≡ Store how a d) where
     -- of a store only its own operands count
@@ -146,7 +147,7 @@ passed-none c s w rests =
         let q = o .same-position in
         record {
           low = subst (λ (t : Thread). Lower (s .views) (t .views)) e (o .views-low);
-          holding = λ n b m. ap (λ (t : Thread). Rattle.cares.specs.Cares.held t n) (sym e);
+          holding = λ n b m. ap (λ (t : Thread). held t n) (sym e);
           jumped = λ h. absurd (omega arith);
         }
     at-start y o g z (over a l h k) = let p = arrives-on a in let q = o .same-position in absurd (omega arith)
@@ -193,8 +194,8 @@ module _ (c : Code) (s : Thread) (w : Wanted) (rests : Cares) (set : ℕ) (v : V
         where
           lows : (p : Bool) → leb far at ≡ p → Crossed set v far at y z → d .instr ≡ x → Lower v' (z' .views)
           lows true p k i =
-              passing .through p (d .memory) (d .time) (Rattle.machine.specs.State.withPromises (d .promises) z) z' (k .low)
-              (subst (λ (u : Instr). Rattle.machine.specs.Rules.execute u (d .memory) (d .time) (Rattle.machine.specs.State.withPromises (d .promises) z) ≡ Rattle.machine.specs.Rules.next z') i (d .does))
+              passing .through p (d .memory) (d .time) (withPromises (d .promises) z) z' (k .low)
+              (subst (λ (u : Instr). execute u (d .memory) (d .time) (withPromises (d .promises) z) ≡ next z') i (d .does))
           lows false p k i = subst (λ (u : Views). Lower u (z' .views)) (sym (passing .beside p)) (lower-trans (k .low) (goes-views d))
 
       crossing' : (y : Thread) → Above s y → Agreeing (rests' .of) s y → (z : Thread) → Crosses c y (at + 1) z → Crossed set' v' far' (at + 1) y z

@@ -1,9 +1,10 @@
 // What is known of a thread before it has come to an instruction ahead: which registers are written until then, how large its views are at
 // least, and up to where branches may pass over instructions.
 ghost use mathlib.Core.Path.{_≡_};
-ghost use mathlib.Core.Bool.{true};
+ghost use mathlib.Core.Bool.{true, false};
 ghost use Prim.Native.Nat.{ℕ, _≤_, _<_};
 ghost use Rattle.cares.specs.Cares.{Marked};
+ghost use Rattle.source.proofs.Counts.{storesOf};
 ghost use Rattle.lost.specs.Lost.{Unwritten, Writing, Leaves, Passing, Farther};
 use cares::barred::marked;
 use cares::barred::marking;
@@ -39,6 +40,19 @@ fn writing(set: u16, r: u8) -> u16
         return set;
     }
     marking(set, r)
+}
+
+// The instruction is a store.
+pub fn is_store(x: Instr) -> bool
+    ensures { λ r. ⌜ (r ≡ false → storesOf x ≡ 0) ⌝ }
+{
+    match x {
+        Instr::Store(_, _, _) => true,
+        Instr::Compute(_, _, _, _) => false,
+        Instr::Load(_, _, _, _) => false,
+        Instr::Branch(_, _, _) => false,
+        Instr::Fence(_) => false,
+    }
 }
 
 // The set with the registers that x writes.

@@ -8,6 +8,7 @@ ghost use mathlib.Core.Bool.{true};
 ghost use Prim.Native.Nat.{_≤_, _<_};
 ghost use Rattle.lost.specs.Lost.{Barred, LostIn, PromiseLost, Fruitless};
 use ahead::farther;
+use ahead::is_store;
 use ahead::passing;
 use ahead::unwritten;
 use ahead::written;
@@ -83,11 +84,13 @@ fn lost(c: Code, s: Thread, w: Wanted) -> Loss
     let mut at = s.position;
     while at < c.count {
         let x = c.instr_at(at);
-        let r = barred(x, s, v, w, set, rests);
-        if !r.certain {
-            return r;
+        if is_store(x) {
+            let r = barred(x, s, v, w, set, rests);
+            if !r.certain {
+                return r;
+            }
+            rests = r.cares;
         }
-        rests = r.cares;
         v = passing(x, v, far <= at as u16);
         set = written(set, x);
         far = farther(x, at, far);
