@@ -18,6 +18,7 @@ use Rattle.certify.specs.Straight.{atPosition}
 use Rattle.certify.specs.Under.{Forwarded, Under}
 use Rattle.certify.specs.Vacant.{cohering}
 use Rattle.lost.proofs.Lower.{raise-both, max-low, pre-low, store-pre-low, load-views-low, store-views-low, cap-views-low, fence-views-low, none-newer-low, view-low}
+use Rattle.lost.proofs.Going.{lower-self}
 
 -- a thread is under itself
 pub under-self : (s : Thread) → Under s s
@@ -31,7 +32,7 @@ under-self s =
       coherence-low = λ l. le-refl _;
       forward-long = refl;
       forward-same = λ l. (refl, le-refl _);
-      views-low = record { rOld-low = le-refl _; wOld-low = le-refl _; rNew-low = le-refl _; wNew-low = le-refl _; cap-low = le-refl _; rel-low = le-refl _ };
+      views-low = lower-self (s .views);
     }
 
 -- a promise more for both
