@@ -8,16 +8,16 @@ use native.Mathlib.Nat.{zero-add}
 use lib.Dec.{ltb}
 use lib.ListN.{length, drop}
 use borrow.Author.Tests.{lt-ltb, le-ltb, eq-eqb, ne-eqb}
-use Rattle.source.specs.declared.Program.{Program}
+use Rattle.program.specs.declared.Program.{Program}
 use Rattle.machine.specs.declared.Machine.{Machine}
 use Rattle.search.specs.declared.Answer.{Answer}
-use Rattle.source.specs.File.{readFile}
-use Rattle.search.specs.Answers.{areaOn, tableOn, Searched, Within}
-use Rattle.values.specs.Lists.{put}
-use Rattle.program_value.specs.Value.{programOf}
-use Rattle.machine_value.specs.Value.{machineOf}
-use Rattle.answers_value.specs.Value.{searchedBytes, withinBytes}
-use Rattle.capi.specs.Calls.{Called, called, answered, onArea, onValue, SearchCalled, searchCalled, searchCall, WithinCalled, withinCalled, withinCall}
+use Rattle.program.specs.File.{readFile}
+use Rattle.search.specs.Answers.{areaOn, tableOn, Searched, SearchedWithin}
+use Rattle.encode_bytes.specs.Lists.{put}
+use Rattle.encode_program.specs.Value.{programOf}
+use Rattle.encode_machine.specs.Value.{machineOf}
+use Rattle.encode_answers.specs.Value.{searchedBytes, withinBytes}
+use Rattle.capi.specs.Calls.{Called, called, withAnswer, onArea, onValue, SearchCalled, searchCalled, searchCall, WithinCalled, withinCalled, withinCall}
 
 -- ---- an area that is too short, and one with room
 pub short : (n : ℕ) (a : List ℕ) (on : Called) → length a < n → called 1 a ≡ onArea n a on
@@ -46,15 +46,15 @@ module _ (n : ℕ) (p x a : List ℕ) (on : Called) (h : n ≤ length a) where
 
 -- ---- whatever is answered, written at the start of an area of n bytes or more
 module _ {R : Type 0} (n : ℕ) (bytes : R → List ℕ) (a a' : List ℕ) (r : R) (h : n ≤ length a) (w : a' ≡ put 0 (bytes r) a) where
-  wrote : (x : R) → r ≡ x → called 0 a' ≡ answered (bytes x) a
+  wrote : (x : R) → r ≡ x → called 0 a' ≡ withAnswer (bytes x) a
   unfolding put
-  wrote x e = ap (called 0) (w ∙ ap (λ (k : ℕ). bytes r ++ drop k a) (zero-add (length (bytes r)))) ∙ ap (λ (z : R). answered (bytes z) a) e
+  wrote x e = ap (called 0) (w ∙ ap (λ (k : ℕ). bytes r ++ drop k a) (zero-add (length (bytes r)))) ∙ ap (λ (z : R). withAnswer (bytes z) a) e
 
-  pub answer-of-file : (x : R) → r ≡ x → called 0 a' ≡ onArea n a (answered (bytes x) a)
+  pub answer-of-file : (x : R) → r ≡ x → called 0 a' ≡ onArea n a (withAnswer (bytes x) a)
   answer-of-file x e = wrote x e ∙ room n a _ h
 
   pub answer-of-values : {K : Type 0} (f : Program → Machine → K → R) (k : K) (p x : List ℕ) (q : Program) (y : Machine) → length p ≡ 487 → length x ≡ 341 → q ≡ programOf p → y ≡ machineOf x → r ≡ f q y k
-      → called 0 a' ≡ onArea n a (onValue 487 p a (onValue 341 x a (answered (bytes (f (programOf p) (machineOf x) k)) a)))
+      → called 0 a' ≡ onArea n a (onValue 487 p a (onValue 341 x a (withAnswer (bytes (f (programOf p) (machineOf x) k)) a)))
   answer-of-values f k p x q y l m ep ex e = wrote _ (e ∙ ap₂ (λ (q : Program) (y : Machine). f q y k) ep ex) ∙ both-fit n p x a _ h l m
 
 -- ---- the search, which is lent a trace area besides
@@ -78,7 +78,7 @@ within-short f b t k a h = rw (lt-ltb _ _ h)
 all-three : List ℕ → List ℕ → Called → WithinCalled
 all-three t k c = record { call = c; trace = t; table = k }
 
-pub within-answered : (f : List ℕ) (b : ℕ) (t t' k k' a a' : List ℕ) (r : Answer) → 16 ≤ length a → Within f b t k r t' k' → a' ≡ put 0 (withinBytes r) a
+pub within-answered : (f : List ℕ) (b : ℕ) (t t' k k' a a' : List ℕ) (r : Answer) → 16 ≤ length a → SearchedWithin f b t k r t' k' → a' ≡ put 0 (withinBytes r) a
     → withinCalled 0 a' t' k' ≡ withinCall f b t k a
 unfolding withinCall all-three
 within-answered f b t t' k k' a a' r h s w =

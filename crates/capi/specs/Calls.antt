@@ -5,16 +5,16 @@ use mathlib.Core.List.{List, _++_}
 use Prim.Native.Nat.{ℕ}
 use lib.Dec.{eqb, ltb}
 use lib.ListN.{length, drop}
-use Rattle.source.specs.File.{readFile}
-use Rattle.source.specs.Answers.{fileRead}
-use Rattle.certify.specs.Answers.{certification}
+use Rattle.program.specs.File.{readFile}
+use Rattle.program.specs.Answers.{fileRead}
+use Rattle.certify.specs.Answers.{certify}
 use Rattle.step.specs.Step.{Step, step}
 use Rattle.step.specs.Answers.{stepped}
-use Rattle.replay.specs.Answers.{replay}
+use Rattle.trace_replay.specs.Answers.{replay}
 use Rattle.search.specs.Answers.{answerOn, areaOn, tableOn}
-use Rattle.program_value.specs.Value.{programOf}
-use Rattle.machine_value.specs.Value.{machineOf}
-use Rattle.answers_value.specs.Value.{readBytes, steppedBytes, certifiedBytes, replayedBytes, searchedBytes, withinBytes}
+use Rattle.encode_program.specs.Value.{programOf}
+use Rattle.encode_machine.specs.Value.{machineOf}
+use Rattle.encode_answers.specs.Value.{readBytes, steppedBytes, certifiedBytes, replayedBytes, searchedBytes, withinBytes}
 
 -- the number that a call returns, and the area after it
 pub record Called : Type 0 where
@@ -25,8 +25,8 @@ abbrev pub called : ℕ → List ℕ → Called
 called n area = record { number = n; area = area }
 
 -- the answer's bytes, and what stood behind them
-abbrev pub answered : List ℕ → List ℕ → Called
-answered bytes area = called 0 (bytes ++ drop (length bytes) area)
+abbrev pub withAnswer : List ℕ → List ℕ → Called
+withAnswer bytes area = called 0 (bytes ++ drop (length bytes) area)
 
 -- an area shorter than n bytes: 1, and nothing is written
 abbrev pub onArea : ℕ → List ℕ → Called → Called
@@ -38,24 +38,24 @@ onValue n value area on = cond (eqb (length value) n) on (called 2 area)
 
 -- ---- the calls
 unfoldable pub readCall : List ℕ → List ℕ → Called
-readCall file area = onArea 495 area (answered (readBytes (fileRead (readFile file))) area)
+readCall file area = onArea 495 area (withAnswer (readBytes (fileRead (readFile file))) area)
 
 unfoldable pub stepCall : List ℕ → List ℕ → Step → List ℕ → Called
 stepCall p x k area =
     onArea 342 area
     (onValue 487 p area
     (onValue 341 x area
-    (answered (steppedBytes (stepped (machineOf x) (step (programOf p) (machineOf x) k))) area)))
+    (withAnswer (steppedBytes (stepped (machineOf x) (step (programOf p) (machineOf x) k))) area)))
 
 unfoldable pub certifyCall : List ℕ → List ℕ → ℕ → List ℕ → Called
 certifyCall p x i area =
     onArea 2 area
     (onValue 487 p area
     (onValue 341 x area
-    (answered (certifiedBytes (certification (programOf p) (machineOf x) i)) area)))
+    (withAnswer (certifiedBytes (certify (programOf p) (machineOf x) i)) area)))
 
 unfoldable pub replayCall : List ℕ → List ℕ → List ℕ → Called
-replayCall file trace area = onArea 357 area (answered (replayedBytes (replay file trace)) area)
+replayCall file trace area = onArea 357 area (withAnswer (replayedBytes (replay file trace)) area)
 
 -- what the search's call returns and leaves in the answer area, and the trace area after it
 pub record SearchCalled : Type 0 where
@@ -69,7 +69,7 @@ searchCalled n area trace = record { call = called n area; trace = trace }
 unfoldable pub searchCall : List ℕ → ℕ → List ℕ → List ℕ → SearchCalled
 searchCall file budget trace area =
     record {
-      call = onArea 12 area (answered (searchedBytes (answerOn (readFile file) budget trace)) area);
+      call = onArea 12 area (withAnswer (searchedBytes (answerOn (readFile file) budget trace)) area);
       trace = cond (ltb (length area) 12) trace (areaOn (readFile file) budget trace);
     }
 
@@ -86,7 +86,7 @@ withinCalled n area trace table = record { call = called n area; trace = trace; 
 unfoldable pub withinCall : List ℕ → ℕ → List ℕ → List ℕ → List ℕ → WithinCalled
 withinCall file budget trace table area =
     record {
-      call = onArea 16 area (answered (withinBytes (answerOn (readFile file) budget trace)) area);
+      call = onArea 16 area (withAnswer (withinBytes (answerOn (readFile file) budget trace)) area);
       trace = cond (ltb (length area) 16) trace (areaOn (readFile file) budget trace);
       table = cond (ltb (length area) 16) table (tableOn (readFile file) trace table);
     }

@@ -3,21 +3,21 @@
 // is written; otherwise exactly the answer's bytes, and by the search the trace that it found.
 ghost use mathlib.Core.Path.{_≡_};
 ghost use Rattle.capi.specs.Calls.{called, readCall, stepCall, certifyCall, replayCall, searchCalled, searchCall, withinCalled, withinCall};
-use answers_value::put_certified;
-use answers_value::put_read;
-use answers_value::put_replayed;
-use answers_value::put_searched;
-use answers_value::put_stepped;
-use answers_value::put_within;
 use certify::certify;
-use machine_value::machine_of;
-use program::read;
-use program_value::program_of;
-use replay::replay;
+use encode_answers::put_certified;
+use encode_answers::put_read;
+use encode_answers::put_replayed;
+use encode_answers::put_searched;
+use encode_answers::put_stepped;
+use encode_answers::put_within;
+use encode_machine::machine_of;
+use encode_program::program_of;
+use file_reader::read;
 use search::search;
 use search::search_within;
 use step::TraceStep;
 use step::step;
+use trace_replay::replay;
 
 // The program of a file, as a program value; 495 bytes.
 #[no_mangle]

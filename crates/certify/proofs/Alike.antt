@@ -9,17 +9,17 @@ use native.Mathlib.Omega.{arith}
 use lib.Dec.{T, eqb-refl, eqb, eqb→eq}
 use lib.ListN.{getD, set}
 use borrow.Author.Tests.{ne-eqb}
-use Rattle.views.specs.Views.{viewAt}
-use Rattle.views.proofs.Entries.{set-both}
-use Rattle.source.specs.Program.{instrAt}
-use Rattle.source.proofs.Tests.{or-left, or-right, and-both}
+use Rattle.theory_views.specs.Views.{viewAt}
+use Rattle.theory_views.proofs.Entries.{set-both}
+use Rattle.program.specs.Program.{instrAt}
+use Rattle.program.proofs.Tests.{or-left, or-right, and-both}
 use Rattle.machine.specs.State.{append, freshRegister}
 use Rattle.machine.specs.Rules.{valueOf, viewOf, viewOf₂, address, combine, computeDone, branchBy, branchDone, fenceDone, storeDone, readable, noneNewer, loadDone, storePre, addPromise}
 use Rattle.machine.proofs.Effects.{loadLocation, loadPreView, loadPostView, storeLocation, Promised, Effect, computed, loaded, stored, branched, fenced, effect}
-use Rattle.live.specs.Live.{isRegister, eitherRegister, locates, weighs, writes, skips, Live, here, later, through}
+use Rattle.certify_ahead.specs.Live.{isRegister, eitherRegister, locates, weighs, writes, skips, Live, here, later, through}
 use Rattle.certify.specs.Below.{Code, Operand, Constant, OfRegister, ComputeMode, LoadMode, StoreMode, FenceMode, Instr, Compute, Load, Store, Branch, Fence, Memory, Register, Thread}
 use Rattle.certify.proofs.Iff.{certified-iff}
-use Rattle.lost.proofs.Lower.{near-sum}
+use Rattle.certify_lost.proofs.Lower.{near-sum}
 use Rattle.certify.proofs.Under.{promise-under, compute-under, branch-under, fence-under, read-low, post-low, load-under, load-effect, store-under, store-effect}
 use Rattle.certify.proofs.Executes.{executes}
 use Rattle.certify.specs.Runs.{Comes, done, by, own}

@@ -6,16 +6,16 @@ use Prim.Native.Nat.{ℕ, _≤_, _<_}
 use native.Mathlib.Omega.{arith}
 use lib.Dec.{T}
 use borrow.Author.Tests.{lt-ltb, le-ltb}
-use Rattle.source.specs.Program.{codeOf}
-use Rattle.source.specs.WellFormed.{programTest}
-use Rattle.source.proofs.Tests.{and-left, and-right}
-use Rattle.source.proofs.Formed.{ProgramOk, program-ok}
+use Rattle.program.specs.Program.{codeOf}
+use Rattle.program.specs.WellFormed.{programTest}
+use Rattle.program.proofs.Tests.{and-left, and-right}
+use Rattle.program.proofs.Formed.{ProgramOk, program-ok}
 use Rattle.machine.specs.State.{threadOf}
 use Rattle.machine.specs.WellFormed.{machineTest, Formed}
 use Rattle.machine.proofs.Formed.{MachineOk, machine-iff}
 use Rattle.certify.specs.Below.{Code, Program, Thread, Machine}
 use Rattle.certify.specs.Certify.{certified}
-use Rattle.certify.specs.Answers.{Certified, Yes, No, Refused, certification, Ready}
+use Rattle.certify.specs.Answers.{Certified, Yes, No, Refused, certify, Ready}
 
 -- ---- what a well-formed program and machine give
 module _ (p : Program) (x : Machine) where
@@ -41,27 +41,27 @@ module _ (p : Program) (x : Machine) where
 
 -- ---- the answers
 module _ (p : Program) (x : Machine) (i : ℕ) (f : Bool) (e : f ≡ (programTest p && machineTest p x)) where
-  pub certify-20 : f ≡ false → Refused 20 ≡ certification p x i
-  unfolding certification
+  pub certify-20 : f ≡ false → Refused 20 ≡ certify p x i
+  unfolding certify
   certify-20 h = rw (sym e ∙ h)
 
   module _ (h : f ≡ true) where
-    pub certify-21 : p .threads ≤ i → Refused 21 ≡ certification p x i
-    unfolding certification
+    pub certify-21 : p .threads ≤ i → Refused 21 ≡ certify p x i
+    unfolding certify
     certify-21 l = rw (sym e ∙ h, le-ltb i (p .threads) l)
 
     module _ (l : i < p .threads) (c : Code) (g : c ≡ codeOf p i) (s : Thread) (q : s ≡ threadOf x i) (b : Bool) (d : b ≡ certified c i (x .memory) s) where
       the-test : b ≡ certified (codeOf p i) i (x .memory) (threadOf x i)
       the-test = d ∙ ap₂ (λ (y : Code) (z : Thread). certified y i (x .memory) z) g q
 
-      pub certify-yes : b ≡ true → Yes ≡ certification p x i
-      unfolding certification
+      pub certify-yes : b ≡ true → Yes ≡ certify p x i
+      unfolding certify
       certify-yes z = rw (sym e ∙ h, lt-ltb i (p .threads) l, sym the-test ∙ z)
 
-      pub certify-no : b ≡ false → No ≡ certification p x i
-      unfolding certification
+      pub certify-no : b ≡ false → No ≡ certify p x i
+      unfolding certify
       certify-no z = rw (sym e ∙ h, lt-ltb i (p .threads) l, sym the-test ∙ z)
 
 -- ---- answers that meet the contract coincide
-pub certify-coincide : (p : Program) (x : Machine) (i : ℕ) (r r' : Certified) → r ≡ certification p x i → r' ≡ certification p x i → r ≡ r'
+pub certify-coincide : (p : Program) (x : Machine) (i : ℕ) (r r' : Certified) → r ≡ certify p x i → r' ≡ certify p x i → r ≡ r'
 certify-coincide p x i r r' e e' = e ∙ sym e'

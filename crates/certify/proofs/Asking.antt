@@ -10,18 +10,18 @@ use native.Mathlib.Decide.{ℕ-discrete, decLt}
 use native.Mathlib.Omega.{arith}
 use lib.Dec.{T, eqb, lit<}
 use borrow.Author.Tests.{eqb-true, not-false}
-use Rattle.source.proofs.Tests.{and-both, eq→eqb, is-false}
+use Rattle.program.proofs.Tests.{and-both, eq→eqb, is-false}
 use Rattle.machine.specs.State.{messageAt, has}
 use Rattle.machine.specs.Rules.{valueOf, address}
 use Rattle.machine.proofs.Effects.{loadLocation}
 use Rattle.machine.proofs.Sets.{has-positive}
-use Rattle.times.specs.Times.{After}
-use Rattle.cares.specs.Cares.{Marked, Agrees, Agreeing}
-use Rattle.cares.proofs.Agreeing.{same-address, not-that, not-barred}
+use Rattle.rules_times.specs.Times.{After}
+use Rattle.certify_cares.specs.Cares.{Marked, Agrees, Agreeing}
+use Rattle.certify_cares.proofs.Agreeing.{same-address, not-that, not-barred}
 use Rattle.certify.specs.Below.{Operand, LoadMode, StoreMode, Instr, Compute, Load, Store, Branch, Fence, Message, Memory, Thread}
 use Rattle.certify.specs.Asks.{Sought, OtherValues, Unsought, Elsewhere, StoresSame, LoadsSame, StoreAsks, Asks}
 use Rattle.certify.specs.Vacant.{Vacant}
-use Rattle.lost.proofs.Lower.{near-sum}
+use Rattle.certify_lost.proofs.Lower.{near-sum}
 
 -- ---- the other values of the promises to a location, one by one
 module _ (m : Memory) (p l v : ℕ) where

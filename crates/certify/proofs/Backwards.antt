@@ -5,9 +5,9 @@ use mathlib.Core.List.{List}
 use mathlib.Core.Option.{some}
 use Prim.Native.Nat.{ℕ}
 use lib.Dec.{eqb}
-use Rattle.source.specs.Program.{instrAt}
+use Rattle.program.specs.Program.{instrAt}
 use Rattle.machine.specs.Rules.{valueOf, combine, computeDone, branchBy, branchDone, fenceDone}
-use Rattle.cares.specs.Cares.{Agrees, careOf, Agreeing, AgreeingBut}
+use Rattle.certify_cares.specs.Cares.{Agrees, careOf, Agreeing, AgreeingBut}
 use Rattle.certify.specs.Below.{Code, Operand, ComputeMode, FenceMode, Instr, Compute, Branch, Fence, Thread}
 use Rattle.certify.specs.Straight.{plainly, Leads, here, on}
 use Rattle.certify.specs.Under.{Rests}

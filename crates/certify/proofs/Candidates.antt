@@ -10,8 +10,8 @@ use native.Mathlib.Decide.{ℕ-discrete}
 use native.Mathlib.Omega.{arith}
 use lib.Dec.{T, eqb, eqb→eq}
 use lib.ListN.{getD, set}
-use Rattle.source.specs.Program.{instrAt}
-use Rattle.source.proofs.Tests.{or-cases, or-left, or-right, and-left, and-right, and-both, eq→eqb}
+use Rattle.program.specs.Program.{instrAt}
+use Rattle.program.proofs.Tests.{or-cases, or-left, or-right, and-left, and-right, and-both, eq→eqb}
 use Rattle.machine.specs.State.{messageAt}
 use Rattle.machine.specs.Rules.{address, combine, branchBy}
 use Rattle.certify.specs.Below.{Code, Operand, Constant, OfRegister, Instr, Compute, Load, Store, Branch, Fence, Memory, Register, Thread}

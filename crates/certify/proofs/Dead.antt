@@ -6,15 +6,15 @@ use Prim.Native.Nat.{ℕ, _+_, _≤_, _<_}
 use native.Mathlib.Nat.{le-trans}
 use native.Mathlib.Omega.{arith}
 use lib.Dec.{T}
-use Rattle.views.specs.Views.{viewAt}
-use Rattle.views.proofs.Merging.{raise-up}
+use Rattle.theory_views.specs.Views.{viewAt}
+use Rattle.theory_views.proofs.Merging.{raise-up}
 use Rattle.machine.specs.State.{messageAt, append, has}
 use Rattle.machine.specs.Rules.{addPromise}
 use Rattle.machine.proofs.Sets.{has-positive, has-none, has-without, with-without}
 use Rattle.machine.proofs.Memories.{message-stays}
 use Rattle.machine.proofs.Effects.{Effect, computed, loaded, stored, branched, fenced, effect}
 use Rattle.certify.specs.Below.{Code, Instr, Message, Memory, Thread}
-use Rattle.certify.specs.Certify.{certify}
+use Rattle.certify.specs.Certify.{certifiedWithin}
 use Rattle.certify.specs.Runs.{Run, done, by, own}
 use Rattle.certify.proofs.Iff.{run-of}
 use Rattle.certify.proofs.Fit.{Owned, owned, own-effect}
@@ -62,5 +62,5 @@ dead-ends {i = i} {m = m} {s = s} d (own x w s' g gw room e r) =
     dead-ends (dead-own d (own-effect i m w s gw (effect x (append m w) ((append m w) .count) (addPromise (append m w) s) s' e))) r
 
 -- and the test fails, whatever its count of instructions
-pub dead-run : (n : ℕ) (c : Code) (i t : ℕ) (m : Memory) (s : Thread) → Dead t m s → T (certify n c i m s) → ⊥
+pub dead-run : (n : ℕ) (c : Code) (i t : ℕ) (m : Memory) (s : Thread) → Dead t m s → T (certifiedWithin n c i m s) → ⊥
 dead-run n c i t m s d h = dead-ends d (run-of n c i m s h)

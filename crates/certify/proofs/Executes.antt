@@ -4,8 +4,8 @@ use mathlib.Core.Path.{_≡_}
 use mathlib.Core.Bool.{_&&_}
 use Prim.Native.Nat.{ℕ, max}
 use lib.Dec.{T, eqb, leb, ltb, le→leb, lt→ltb}
-use Rattle.views.specs.Views.{viewAt}
-use Rattle.source.proofs.Tests.{and-both, eq→eqb, is-true}
+use Rattle.theory_views.specs.Views.{viewAt}
+use Rattle.program.proofs.Tests.{and-both, eq→eqb, is-true}
 use Rattle.machine.specs.State.{messageAt, has}
 use Rattle.machine.specs.Rules.{next, valueOf, viewOf, readable, noneNewer, loadAt, storePre, promised, storeAt, execute}
 use Rattle.machine.proofs.Effects.{loadLocation, loadPreView, storeLocation, Promised, Effect, computed, loaded, stored, branched, fenced}

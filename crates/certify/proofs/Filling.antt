@@ -11,8 +11,8 @@ use lib.Dec.{T, eqb, ltb, eqb→eq, ltb→lt, lt→ltb}
 use lib.ListN.{length}
 use borrow.Author.Tests.{not-true}
 use lib.Seq.{getD-set-same}
-use Rattle.views.specs.Views.{viewAt}
-use Rattle.source.proofs.Tests.{and-left, and-right, and-both, eq→eqb}
+use Rattle.theory_views.specs.Views.{viewAt}
+use Rattle.program.proofs.Tests.{and-left, and-right, and-both, eq→eqb}
 use Rattle.machine.specs.State.{noMessage, has, without}
 use Rattle.machine.specs.Rules.{next, valueOf, viewOf, address, storePre, storeDone, execute}
 use Rattle.machine.specs.Answers.{ruled, belowTime, storeMessage}
@@ -22,7 +22,7 @@ use Rattle.machine.proofs.Sets.{has-positive, has-time, ones-without}
 use Rattle.machine.proofs.Words.{ones-eqb}
 use Rattle.machine.proofs.Cases.{was-true, ruled-done, ruled-refused}
 use Rattle.machine.proofs.Effects.{storeLocation, Promised, Effect, computed, loaded, stored, branched, fenced, effect}
-use Rattle.cares.specs.declared.Cares.{Cares}
+use Rattle.certify_cares.specs.declared.Cares.{Cares}
 use Rattle.certify.specs.Below.{Code, Operand, StoreMode, Instr, Store, Message, Memory, Thread}
 use Rattle.certify.specs.Certify.{messageOf, onward, certified}
 use Rattle.certify.specs.Answers.{Trying}

@@ -9,8 +9,8 @@ use Prim.Native.Nat.{ℕ}
 use native.Mathlib.Omega.{arith}
 use Rattle.machine.specs.Rules.{refused, next, valueOf, address, execute}
 use Rattle.machine.proofs.Effects.{loadLocation}
-use Rattle.cares.specs.Cares.{Covers}
-use Rattle.cares.specs.declared.Cares.{Cares}
+use Rattle.certify_cares.specs.Cares.{Covers}
+use Rattle.certify_cares.specs.declared.Cares.{Cares}
 use Rattle.certify.specs.Below.{Code, Operand, StoreMode, Instr, Compute, Load, Store, Branch, Fence, Memory, Thread}
 use Rattle.certify.specs.Asks.{Met, Sought, Unmet, Elsewhere, StoresSame, LoadsSame, Asks, Likewise}
 use Rattle.certify.specs.Runs.{Comes, done, by, own}

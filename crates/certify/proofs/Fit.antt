@@ -6,8 +6,8 @@ use Prim.Native.Nat.{ℕ, suc, _+_, _≤_, _<_}
 use native.Mathlib.Omega.{arith}
 use lib.Count.{ones}
 use lib.Dec.{T}
-use Rattle.source.specs.Counts.{storesFrom}
-use Rattle.source.proofs.Counts.{storesOf, stores-past, stores-fall}
+use Rattle.program.specs.Counts.{storesFrom}
+use Rattle.program.proofs.Counts.{storesOf, stores-past, stores-fall}
 use Rattle.machine.specs.State.{append}
 use Rattle.machine.specs.Rules.{valueOf, viewOf, storeDone, addPromise}
 use Rattle.machine.proofs.Sets.{with-without, ones-none, ones-without}

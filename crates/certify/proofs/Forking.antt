@@ -8,13 +8,13 @@ use mathlib.Core.Option.{some}
 use Prim.Native.Nat.{ℕ, _+_, _-_, _*_, _<_}
 use native.Mathlib.Omega.{arith}
 use lib.Dec.{eqb}
-use Rattle.source.specs.Program.{instrAt}
-use Rattle.source.proofs.Counts.{there}
-use Rattle.source.proofs.Formed.{CodeOk}
+use Rattle.program.specs.Program.{instrAt}
+use Rattle.program.proofs.Counts.{there}
+use Rattle.program.proofs.Formed.{CodeOk}
 use Rattle.machine.specs.Rules.{valueOf, branchBy, branchDone}
 use Rattle.machine.proofs.Effects.{branch-moves}
-use Rattle.cares.specs.Cares.{Covers}
-use Rattle.cares.specs.declared.Cares.{Cares}
+use Rattle.certify_cares.specs.Cares.{Covers}
+use Rattle.certify_cares.specs.declared.Cares.{Cares}
 use Rattle.certify.specs.Below.{Code, Branch, Memory, Thread}
 use Rattle.certify.specs.Asks.{Met, Sought, Unmet}
 use Rattle.certify.specs.Sought.{Reached, Meets, Found}

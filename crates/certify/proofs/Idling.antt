@@ -8,7 +8,7 @@ use native.Mathlib.Omega.{arith}
 use lib.Dec.{eqb, ltb, eqb·zero-suc}
 use lib.ListN.{getD}
 use borrow.Author.Tests.{eqb-true, ltb-true, not-false}
-use Rattle.views.specs.Views.{viewAt}
+use Rattle.theory_views.specs.Views.{viewAt}
 use Rattle.machine.specs.State.{freshForward}
 use Rattle.machine.specs.Rules.{valueOf, address, readView}
 use Rattle.certify.specs.Below.{Operand, LoadMode, Instr, Load, Memory, Forward, Thread}

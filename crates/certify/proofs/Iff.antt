@@ -8,14 +8,14 @@ use Prim.Native.Nat.{ℕ, zero, suc, _+_, _≤_, _<_}
 use native.Mathlib.Decide.{ℕ-discrete}
 use native.Mathlib.Omega.{arith}
 use lib.Dec.{T, eqb, ltb, eqb→eq, ltb→lt, lt→ltb}
-use Rattle.source.specs.Program.{instrAt}
-use Rattle.source.proofs.Tests.{or-cases, or-left, or-right, and-left, and-right, and-both, eq→eqb}
-use Rattle.source.proofs.Counts.{there}
+use Rattle.program.specs.Program.{instrAt}
+use Rattle.program.proofs.Tests.{or-cases, or-left, or-right, and-left, and-right, and-both, eq→eqb}
+use Rattle.program.proofs.Counts.{there}
 use Rattle.machine.specs.State.{append}
 use Rattle.machine.specs.Rules.{Executed, refused, next, execute, addPromise}
 use Rattle.machine.proofs.Effects.{effect, moves}
 use Rattle.certify.specs.Below.{Code, Instr, Message, Memory, Thread}
-use Rattle.certify.specs.Certify.{anyFrom, messageOf, onward, ownMessage, oneMore, certify, certified}
+use Rattle.certify.specs.Certify.{anyFrom, messageOf, onward, ownMessage, oneMore, certifiedWithin, certified}
 use Rattle.certify.specs.Runs.{done, by, own, Certifying}
 
 -- ---- a number that passes
@@ -68,12 +68,12 @@ module _ (c : Code) (i : ℕ) (f : Memory → Thread → Bool) (rec : (m : Memor
       (or-cases (anyFrom at 0 (suc (m .count))) (ownMessage f x m s (messageOf i s x)) h)
 
 -- where the test passes, for any count of instructions, there is a certifying run
-pub run-of : (n : ℕ) (c : Code) (i : ℕ) (m : Memory) (s : Thread) → T (certify n c i m s) → Certifying c i m s
-unfolding certify
+pub run-of : (n : ℕ) (c : Code) (i : ℕ) (m : Memory) (s : Thread) → T (certifiedWithin n c i m s) → Certifying c i m s
+unfolding certifiedWithin
 run-of zero c i m s h = done (eqb→eq (s .promises) 0 h)
 run-of (suc n) c i m s h =
-    ⊎-elim (λ z. done (eqb→eq (s .promises) 0 z)) (λ o. run-more c i (certify n c i) (run-of n c i) m s (instrAt c (s .position)) refl o)
-    (or-cases (eqb (s .promises) 0) (oneMore (certify n c i) i m s (instrAt c (s .position))) h)
+    ⊎-elim (λ z. done (eqb→eq (s .promises) 0 z)) (λ o. run-more c i (certifiedWithin n c i) (run-of n c i) m s (instrAt c (s .position)) refl o)
+    (or-cases (eqb (s .promises) 0) (oneMore (certifiedWithin n c i) i m s (instrAt c (s .position))) h)
 
 -- ---- from a run to the test
 pub onward-next : (f : Thread → Bool) (o : Executed) (s' : Thread) → o ≡ next s' → T (f s') → T (onward f o)
@@ -98,20 +98,20 @@ module _ (f : Memory → Thread → Bool) (i : ℕ) (m : Memory) (s : Thread) (x
       (and-both (ltb (m .count) 16) (onward (f m') r) (lt→ltb (m .count) 16 le) (onward-next (f m') r s' e h)))
 
 -- a run is found by the test, if its count of instructions comes up to the thread's end
-test-of : (n : ℕ) {c : Code} {i : ℕ} {m : Memory} {s : Thread} → Certifying c i m s → c .count ≤ n + s .position → T (certify n c i m s)
-unfolding certify
+test-of : (n : ℕ) {c : Code} {i : ℕ} {m : Memory} {s : Thread} → Certifying c i m s → c .count ≤ n + s .position → T (certifiedWithin n c i m s)
+unfolding certifiedWithin
 test-of zero (done e) le = eq→eqb e
 test-of zero {c} {i} {m} {s} (by x t s' g tl e r) le = let h = there c (s .position) x g .0 in absurd (omega arith)
 test-of zero {c} {i} {m} {s} (own x w s' g gw sm e r) le = let h = there c (s .position) x g .0 in absurd (omega arith)
-test-of (suc n) {c} {i} {m} {s} (done e) le = or-left (eqb (s .promises) 0) (oneMore (certify n c i) i m s (instrAt c (s .position))) (eq→eqb e)
+test-of (suc n) {c} {i} {m} {s} (done e) le = or-left (eqb (s .promises) 0) (oneMore (certifiedWithin n c i) i m s (instrAt c (s .position))) (eq→eqb e)
 test-of (suc n) {c} {i} {m} {s} (by x t s' g tl e r) le =
     let h = moves (effect x m t s s' e) in
-    or-right (eqb (s .promises) 0) (oneMore (certify n c i) i m s (instrAt c (s .position)))
-    (subst (λ (o : Option Instr). T (oneMore (certify n c i) i m s o)) (sym g) (more-by (certify n c i) i m s x t s' tl e (test-of n r (omega arith))))
+    or-right (eqb (s .promises) 0) (oneMore (certifiedWithin n c i) i m s (instrAt c (s .position)))
+    (subst (λ (o : Option Instr). T (oneMore (certifiedWithin n c i) i m s o)) (sym g) (more-by (certifiedWithin n c i) i m s x t s' tl e (test-of n r (omega arith))))
 test-of (suc n) {c} {i} {m} {s} (own x w s' g gw sm e r) le =
     let h = moves (effect x (append m w) ((append m w) .count) (addPromise (append m w) s) s' e) in
-    or-right (eqb (s .promises) 0) (oneMore (certify n c i) i m s (instrAt c (s .position)))
-    (subst (λ (o : Option Instr). T (oneMore (certify n c i) i m s o)) (sym g) (more-own (certify n c i) i m s x w s' gw sm e (test-of n r (omega arith))))
+    or-right (eqb (s .promises) 0) (oneMore (certifiedWithin n c i) i m s (instrAt c (s .position)))
+    (subst (λ (o : Option Instr). T (oneMore (certifiedWithin n c i) i m s o)) (sym g) (more-own (certifiedWithin n c i) i m s x w s' gw sm e (test-of n r (omega arith))))
 
 -- CERTIFIED exactly where a certifying run exists
 pub certified-iff : (c : Code) (i : ℕ) (m : Memory) (s : Thread) → T (certified c i m s) ↔ Certifying c i m s
@@ -125,6 +125,6 @@ same-test false true f g = absurd (g tt)
 same-test false false f g = refl
 
 -- any count of instructions that comes up to the thread's end gives the same verdict
-pub fuel-no-limit : (n : ℕ) (c : Code) (i : ℕ) (m : Memory) (s : Thread) → c .count ≤ n + s .position → certify n c i m s ≡ certified c i m s
+pub fuel-no-limit : (n : ℕ) (c : Code) (i : ℕ) (m : Memory) (s : Thread) → c .count ≤ n + s .position → certifiedWithin n c i m s ≡ certified c i m s
 fuel-no-limit n c i m s le =
-    same-test (certify n c i m s) (certified c i m s) (λ h. certified-iff c i m s .1 (run-of n c i m s h)) (λ h. test-of n (certified-iff c i m s .0 h) le)
+    same-test (certifiedWithin n c i m s) (certified c i m s) (λ h. certified-iff c i m s .1 (run-of n c i m s h)) (λ h. test-of n (certified-iff c i m s .0 h) le)

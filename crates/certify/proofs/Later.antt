@@ -11,7 +11,7 @@ use Rattle.machine.specs.State.{has, without, freshForward}
 use Rattle.machine.specs.Rules.{next, readValue, execute}
 use Rattle.machine.proofs.Effects.{loadLocation}
 use Rattle.machine.proofs.Sets.{has-without}
-use Rattle.cares.specs.Cares.{Agrees, same, careOf}
+use Rattle.certify_cares.specs.Cares.{Agrees, same, careOf}
 use Rattle.certify.specs.Below.{Code, Operand, LoadMode, Load, Memory, Forward, Thread}
 use Rattle.certify.specs.Certify.{certified}
 use Rattle.certify.specs.Sought.{Reached, Meets, Found}

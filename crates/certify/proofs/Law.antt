@@ -12,11 +12,11 @@ use native.Mathlib.Omega.{arith}
 use lib.Dec.{T, eqb, leb, eqb→eq, leb→le, lit<}
 use lib.ListN.{length, getD, set, length-set, List·getD-map}
 use borrow.Author.Tests.{ne-eqb}
-use Rattle.views.specs.Views.{viewAt, raiseAt}
-use Rattle.views.proofs.Entries.{set-all, map-set}
-use Rattle.views.proofs.Merging.{length-raise, raise-reaches}
-use Rattle.source.proofs.Tests.{or-cases, and-left, and-right}
-use Rattle.source.proofs.Counts.{there}
+use Rattle.theory_views.specs.Views.{viewAt, raiseAt}
+use Rattle.theory_views.proofs.Entries.{set-all, map-set}
+use Rattle.theory_views.proofs.Merging.{length-raise, raise-reaches}
+use Rattle.program.proofs.Tests.{or-cases, and-left, and-right}
+use Rattle.program.proofs.Counts.{there}
 use Rattle.machine.specs.State.{messageAt, append, has, freshRegister, freshForward}
 use Rattle.machine.specs.Rules.{valueOf, address, combine, branchBy, readable, readValue, readView, addPromise}
 use Rattle.machine.proofs.Sets.{has-positive, has-none, has-without, has-with, with-without}

@@ -8,13 +8,13 @@ use Prim.Native.Nat.{ℕ, _+_, _-_, _≤_}
 use native.Mathlib.Omega.{arith}
 use lib.Dec.{T}
 use lib.ListN.{length, getD, set, length-set}
-use Rattle.source.specs.Program.{instrAt}
-use Rattle.views.proofs.Entries.{set-both}
+use Rattle.program.specs.Program.{instrAt}
+use Rattle.theory_views.proofs.Entries.{set-both}
 use Rattle.machine.specs.State.{noMessage, messageAt, append, has, with, withPromises}
 use Rattle.machine.specs.Rules.{execute, addPromise}
 use Rattle.machine.proofs.Sets.{has-removed}
 use Rattle.machine.proofs.Effects.{Effect, computed, loaded, stored, branched, fenced, effect, moves}
-use Rattle.live.specs.Loadless.{Loadless}
+use Rattle.certify_ahead.specs.Loadless.{Loadless}
 use Rattle.certify.specs.Below.{Code, Operand, LoadMode, Instr, Load, Message, Memory, Thread}
 use Rattle.certify.specs.Certify.{certified}
 use Rattle.certify.specs.Runs.{Comes, done, by, own, Fewer}

@@ -7,17 +7,17 @@ use Prim.Native.Nat.{ℕ, _-_, _≤_, _<_}
 use native.Mathlib.Omega.{arith}
 use lib.Dec.{T}
 use lib.Seq.{getD-set-other}
-use Rattle.source.specs.Program.{instrAt}
+use Rattle.program.specs.Program.{instrAt}
 use Rattle.machine.specs.State.{noMessage, messageAt, append, has, with}
 use Rattle.machine.specs.Rules.{next, valueOf, viewOf, storePre, execute, addPromise}
 use Rattle.machine.proofs.Sets.{has-positive, has-none, has-without}
 use Rattle.machine.proofs.Memories.{message-stays}
 use Rattle.machine.proofs.Effects.{storeLocation, Effect, computed, loaded, stored, branched, fenced, effect}
-use Rattle.cares.specs.declared.Cares.{Cares}
-use Rattle.lost.specs.declared.wanted.Wanted.{Wanted}
-use Rattle.lost.specs.Lost.{Goes, start, Fits, Misses, late, elsewhere, other, Lost, Above, Filling, PromiseLost, HoleLost, Fruitless}
-use Rattle.lost.proofs.Lower.{store-pre-low}
-use Rattle.lost.proofs.Going.{lower-self, arrives-from}
+use Rattle.certify_cares.specs.declared.Cares.{Cares}
+use Rattle.certify_lost.specs.declared.wanted.Wanted.{Wanted}
+use Rattle.certify_lost.specs.Lost.{Goes, start, Fits, Misses, late, elsewhere, other, Lost, Above, Filling, PromiseLost, HoleLost, Fruitless}
+use Rattle.certify_lost.proofs.Lower.{store-pre-low}
+use Rattle.certify_lost.proofs.Going.{lower-self, arrives-from}
 use Rattle.certify.specs.Below.{Code, Operand, StoreMode, Instr, Compute, Load, Store, Branch, Fence, Message, Memory, Thread}
 use Rattle.certify.specs.Certify.{messageOf, certified}
 use Rattle.certify.specs.Asks.{Unmet}

@@ -13,16 +13,16 @@ use lib.Count.{ones}
 use lib.Dec.{T}
 use lib.ListN.{length, set, replicate, List·getD-eq-default, length-set, length-replicate, getD-replicate}
 use lib.Seq.{getD-set-same, getD-set-other}
-use Rattle.source.specs.Program.{instrAt}
-use Rattle.source.specs.Counts.{storesFrom}
+use Rattle.program.specs.Program.{instrAt}
+use Rattle.program.specs.Counts.{storesFrom}
 use Rattle.machine.specs.Rules.{next, readValue, readView, execute}
 use Rattle.machine.specs.Answers.{ruled}
 use Rattle.machine.specs.declared.RuleAnswer.the-variants.{Refused}
 use Rattle.machine.specs.declared.Ruled.{Ruled}
 use Rattle.machine.proofs.Cases.{ruled-refused}
 use Rattle.machine.proofs.Effects.{loadLocation, effect, effect-time}
-use Rattle.cares.specs.Cares as cares
-use Rattle.cares.specs.Cares.{Agrees, careOf, Agreeing, AgreeingBut, Covers}
+use Rattle.certify_cares.specs.Cares as cares
+use Rattle.certify_cares.specs.Cares.{Agrees, careOf, Agreeing, AgreeingBut, Covers}
 use Rattle.certify.specs.Below.{Code, Operand, LoadMode, StoreMode, Instr, Compute, Load, Store, Branch, Fence, Memory, Thread}
 use Rattle.certify.specs.Answers.{Trying, Earliest, Following}
 use Rattle.certify.specs.Asks.{Met, Unmet, Likewise}

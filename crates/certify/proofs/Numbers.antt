@@ -9,7 +9,7 @@ use native.Mathlib.Decide.{ℕ-discrete, decLt}
 use native.Mathlib.Omega.{arith}
 use lib.Dec.{T, eqb, leb, eqb→eq, leb→le}
 use borrow.Author.Tests.{lt-ltb, le-ltb, le-leb, lt-leb, not-false}
-use Rattle.source.proofs.Tests.{eq→eqb, and-left, and-right}
+use Rattle.program.proofs.Tests.{eq→eqb, and-left, and-right}
 use Rattle.certify.specs.Asks.{Met, Sought, meeting, Unmet, Seeks}
 use Rattle.certify.specs.Sought.{Better, same, more, Twice, LeastOrTwo, Emptied}
 

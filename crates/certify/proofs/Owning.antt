@@ -11,8 +11,8 @@ use lib.Count.{ones}
 use lib.Dec.{T}
 use lib.ListN.{length-set}
 use borrow.Author.Tests.{not-true}
-use Rattle.source.specs.Counts.{storesFrom}
-use Rattle.source.proofs.Counts.{stores-fall}
+use Rattle.program.specs.Counts.{storesFrom}
+use Rattle.program.proofs.Counts.{stores-fall}
 use Rattle.machine.specs.State.{append, has}
 use Rattle.machine.specs.Rules.{next, valueOf, address, execute, addPromise}
 use Rattle.machine.specs.Answers.{ruled, storeMessage, ownStore}
@@ -22,10 +22,10 @@ use Rattle.machine.proofs.Cases.{ruled-done, ruled-refused}
 use Rattle.machine.proofs.Memories.{message-stays}
 use Rattle.machine.proofs.Sets.{has-positive, has-time}
 use Rattle.machine.proofs.Effects.{effect, moves}
-use Rattle.live.specs.Loadless.{Loadless}
-use Rattle.cares.specs.Cares.{Agrees, Agreeing, Covers}
-use Rattle.cares.specs.declared.Cares.{Cares}
-use Rattle.cares.proofs.Agreeing.{same-value, same-address}
+use Rattle.certify_ahead.specs.Loadless.{Loadless}
+use Rattle.certify_cares.specs.Cares.{Agrees, Agreeing, Covers}
+use Rattle.certify_cares.specs.declared.Cares.{Cares}
+use Rattle.certify_cares.proofs.Agreeing.{same-value, same-address}
 use Rattle.certify.specs.Below.{Code, Operand, Constant, OfRegister, StoreMode, Instr, Compute, Load, Store, Branch, Fence, Message, Memory, Thread}
 use Rattle.certify.specs.Certify.{messageOf}
 use Rattle.certify.specs.Asks.{Met, Unmet}

@@ -9,14 +9,14 @@ use native.Mathlib.Omega.{arith}
 use lib.Count.{ones}
 use lib.Dec.{T, ltb, lt→ltb}
 use borrow.Author.Tests.{not-false}
-use Rattle.source.specs.Counts.{storesFrom}
-use Rattle.source.proofs.Tests.{and-both, eq→eqb}
+use Rattle.program.specs.Counts.{storesFrom}
+use Rattle.program.proofs.Tests.{and-both, eq→eqb}
 use Rattle.machine.specs.State.{messageAt, has}
 use Rattle.machine.proofs.Sets.{has-positive}
-use Rattle.times.specs.Times.{After}
-use Rattle.cares.specs.Cares.{Marked}
-use Rattle.cares.proofs.Agreeing.{same-value, not-less, less}
-use Rattle.cares.proofs.Marks.{all-marked}
+use Rattle.rules_times.specs.Times.{After}
+use Rattle.certify_cares.specs.Cares.{Marked}
+use Rattle.certify_cares.proofs.Agreeing.{same-value, not-less, less}
+use Rattle.certify_cares.proofs.Marks.{all-marked}
 use Rattle.certify.specs.Below.{Code, Instr, Compute, Load, Store, Branch, Fence, Message, Memory, Thread}
 use Rattle.certify.specs.Asks.{Sought, Seeks, Unsought, Elsewhere, Located, SoughtIn}
 use Rattle.certify.specs.Vacant.{Vacant}

@@ -9,10 +9,10 @@ use Prim.Native.Nat.{ℕ, _≤_, _<_}
 use native.Mathlib.Nat.{le-refl}
 use native.Mathlib.Omega.{arith}
 use lib.Dec.{T, eqb, eqb→eq}
-use Rattle.source.specs.declared.Instruction.{Instruction}
-use Rattle.source.specs.Program.{operand, computeMode, loadMode, storeMode, fenceMode, decode, instructionAt, instrAt}
-use Rattle.source.proofs.Counts.{there}
-use Rattle.source.proofs.Tests.{or-cases}
+use Rattle.program.specs.declared.Instruction.{Instruction}
+use Rattle.program.specs.Program.{operand, computeMode, loadMode, storeMode, fenceMode, decode, instructionAt, instrAt}
+use Rattle.program.proofs.Counts.{there}
+use Rattle.program.proofs.Tests.{or-cases}
 use Rattle.machine.specs.State.{freshMemory}
 use Rattle.machine.specs.Rules.{next, computeDone, branchDone, fenceDone, execute}
 use Rattle.machine.proofs.Effects.{Effect, computed, loaded, stored, branched, fenced, effect, moves}

@@ -7,9 +7,9 @@ use Prim.Native.Nat.{ℕ, _+_, _-_, _*_, _≤_, _<_}
 use native.Mathlib.Decide.{ℕ-discrete}
 use native.Mathlib.Omega.{arith}
 use lib.Dec.{T, eqb, eqb→eq}
-use Rattle.source.specs.Program.{instrAt}
-use Rattle.source.proofs.Counts.{there}
-use Rattle.source.proofs.Tests.{eq→eqb, is-true, is-false}
+use Rattle.program.specs.Program.{instrAt}
+use Rattle.program.proofs.Counts.{there}
+use Rattle.program.proofs.Tests.{eq→eqb, is-true, is-false}
 use Rattle.machine.specs.State.{append, has}
 use Rattle.machine.specs.Rules.{next, valueOf, address, execute, addPromise}
 use Rattle.machine.specs.Answers.{ruled, storeMessage, ownStore}
@@ -17,8 +17,8 @@ use Rattle.machine.specs.declared.RuleAnswer.the-variants.{Done}
 use Rattle.machine.specs.declared.Ruled.{Ruled}
 use Rattle.machine.proofs.Cases.{ruled-done}
 use Rattle.machine.proofs.Effects.{effect, effect-time, moves}
-use Rattle.cares.specs.Cares.{Agreeing, Covers}
-use Rattle.cares.specs.declared.Cares.{Cares}
+use Rattle.certify_cares.specs.Cares.{Agreeing, Covers}
+use Rattle.certify_cares.specs.declared.Cares.{Cares}
 use Rattle.certify.specs.Below.{Code, Operand, StoreMode, Instr, Store, Message, Memory, Thread}
 use Rattle.certify.specs.Certify.{messageOf, certified}
 use Rattle.certify.specs.Answers.{Trying}

@@ -8,12 +8,12 @@ use native.Mathlib.Decide.{ℕ-discrete}
 use native.Mathlib.Omega.{arith}
 use lib.Dec.{T, eqb, eqb→eq, not-T}
 use lib.ListN.{getD, set}
-use Rattle.views.proofs.Entries.{set-both}
-use Rattle.source.proofs.Tests.{and-left, below-all}
+use Rattle.theory_views.proofs.Entries.{set-both}
+use Rattle.program.proofs.Tests.{and-left, below-all}
 use Rattle.machine.specs.State.{messageAt, has, freshRegister}
 use Rattle.machine.specs.Rules.{next, valueOf, address, combine, computeDone, branchBy, branchDone, fenceDone, readable, newer, noneNewer, readValue, readView, execute, addPromise}
 use Rattle.machine.proofs.Effects.{loadLocation, Effect, loaded, stored, effect, readable-time, read-there}
-use Rattle.cares.specs.Cares.{Agrees, same, careOf, Agreeing, AgreeingBut}
+use Rattle.certify_cares.specs.Cares.{Agrees, same, careOf, Agreeing, AgreeingBut}
 use Rattle.certify.specs.Below.{Operand, ComputeMode, LoadMode, StoreMode, FenceMode, Load, Store, Memory, Register, Thread}
 use Rattle.certify.specs.Straight.{atPosition}
 use Rattle.certify.specs.Under.{Under, Rests}

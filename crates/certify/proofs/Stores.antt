@@ -7,8 +7,8 @@ use Prim.Native.Nat.{ℕ, suc, _≤_, _<_}
 use native.Mathlib.Omega.{arith}
 use lib.Count.{ones}
 use lib.Dec.{T, ltb, ltb→lt}
-use Rattle.source.specs.Counts.{storesFrom}
-use Rattle.source.proofs.Counts.{stores-past, stores-fall}
+use Rattle.program.specs.Counts.{storesFrom}
+use Rattle.program.proofs.Counts.{stores-past, stores-fall}
 use Rattle.machine.specs.Rules.{execute}
 use Rattle.machine.proofs.Sets.{ones-none}
 use Rattle.machine.proofs.Effects.{effect, moves}

@@ -6,11 +6,11 @@ use mathlib.Core.List.{List}
 use Prim.Native.Nat.{ℕ, _+_, _≤_, _<_}
 use lib.Dec.{T, eqb}
 use lib.ListN.{length, getD, set}
-use Rattle.source.proofs.Arrays.{getD-any}
+use Rattle.program.proofs.Arrays.{getD-any}
 use Rattle.machine.specs.State.{freshForward}
 use Rattle.machine.specs.Rules.{valueOf, address, readValue}
-use Rattle.cares.specs.Cares.{Agrees, careOf, Agreeing, AgreeingBut, Covers}
-use Rattle.cares.specs.declared.Cares.{Cares}
+use Rattle.certify_cares.specs.Cares.{Agrees, careOf, Agreeing, AgreeingBut, Covers}
+use Rattle.certify_cares.specs.declared.Cares.{Cares}
 use Rattle.certify.specs.Below.{Operand, LoadMode, StoreMode, Instr, Load, Store, Memory, Forward, Thread}
 use Rattle.certify.specs.Sought.{Reached, Tried, Noted}
 use Rattle.certify.specs.Tries.{Doubled, Vain}

@@ -6,8 +6,8 @@ use Prim.Native.Nat.{ℕ, zero, suc, max, _+_, _-_, _^_, _≤_, _<_}
 use native.Mathlib.Decide.{decLt}
 use native.Mathlib.Omega.{arith}
 use lib.Dec.{T, eqb, leb, ltb, lt→ltb, le→leb}
-use Rattle.views.specs.Views.{viewAt}
-use Rattle.source.proofs.Tests.{and-both, eq→eqb, is-true, below-at}
+use Rattle.theory_views.specs.Views.{viewAt}
+use Rattle.program.proofs.Tests.{and-both, eq→eqb, is-true, below-at}
 use Rattle.machine.specs.State.{messageAt, append}
 use Rattle.machine.specs.Rules.{next, valueOf, address, newer, noneNewer, execute, addPromise}
 use Rattle.machine.specs.Answers.{reach, storeMessage, ownStore}
@@ -15,7 +15,7 @@ use Rattle.machine.proofs.Sets.{has-positive, with-small, without-small, grown-
 use Rattle.machine.proofs.Cases.{reach-within}
 use Rattle.machine.proofs.Effects.{loadLocation, loadPreView, Effect, computed, loaded, stored, branched, fenced, effect, effect-time, read-there}
 use Rattle.certify.specs.Below.{Code, Operand, ComputeMode, LoadMode, StoreMode, FenceMode, Instr, Compute, Load, Store, Branch, Fence, Message, Memory, Thread}
-use Rattle.times.specs.Times.{After}
+use Rattle.rules_times.specs.Times.{After}
 use Rattle.certify.specs.Answers.{Ready, Trying, Earliest, Stands, NextKept, NextMessage, Following}
 use Rattle.certify.proofs.Fit.{own-effect, own-leaves}
 

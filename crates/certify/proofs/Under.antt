@@ -7,9 +7,9 @@ use native.Mathlib.Nat.{le-refl, le-trans, le-max-left, lt-of-le-of-lt}
 use native.Mathlib.Omega.{arith}
 use lib.Dec.{T, eqb}
 use lib.ListN.{length, getD, set, length-set}
-use Rattle.views.specs.Views.{viewAt, raiseAt}
-use Rattle.views.proofs.Entries.{set-both}
-use Rattle.views.proofs.Merging.{length-raise, raise-up}
+use Rattle.theory_views.specs.Views.{viewAt, raiseAt}
+use Rattle.theory_views.proofs.Entries.{set-both}
+use Rattle.theory_views.proofs.Merging.{length-raise, raise-up}
 use Rattle.machine.specs.State.{has, with, without, freshRegister, freshForward}
 use Rattle.machine.specs.Rules.{valueOf, viewOf, viewOf₂, computeDone, branchBy, branchDone, fenceDone, storeDone, readable, noneNewer, readView, loadDone, storePre, addPromise}
 use Rattle.machine.proofs.Effects.{loadLocation, loadPreView, loadPostView, storeLocation, Promised, Effect, loaded, stored}
@@ -17,8 +17,8 @@ use Rattle.certify.specs.Below.{Operand, Constant, OfRegister, ComputeMo
 use Rattle.certify.specs.Straight.{atPosition}
 use Rattle.certify.specs.Under.{Forwarded, Under}
 use Rattle.certify.specs.Vacant.{cohering}
-use Rattle.lost.proofs.Lower.{raise-both, max-low, pre-low, store-pre-low, load-views-low, store-views-low, cap-views-low, fence-views-low, none-newer-low, view-low}
-use Rattle.lost.proofs.Going.{lower-self}
+use Rattle.certify_lost.proofs.Lower.{raise-both, max-low, pre-low, store-pre-low, load-views-low, store-views-low, cap-views-low, fence-views-low, none-newer-low, view-low}
+use Rattle.certify_lost.proofs.Going.{lower-self}
 
 -- a thread is under itself
 pub under-self : (s : Thread) → Under s s

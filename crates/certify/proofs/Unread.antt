@@ -5,11 +5,11 @@ use mathlib.Core.Logic.{inl, inr}
 use mathlib.Core.List.{List}
 use mathlib.Core.Option.{none, some, Option·some-injective}
 use Prim.Native.Nat.{ℕ}
-use Rattle.source.specs.Program.{instrAt}
+use Rattle.program.specs.Program.{instrAt}
 use Rattle.machine.specs.Rules.{next, viewOf₂, loadPre, loadDone, execute}
 use Rattle.machine.proofs.Effects.{Effect, loaded, effect, loadPreView, loadPostView}
-use Rattle.cares.specs.Cares.{careOf, AgreeingBut}
-use Rattle.cares.proofs.Agreeing.{nothing-asked}
+use Rattle.certify_cares.specs.Cares.{careOf, AgreeingBut}
+use Rattle.certify_cares.proofs.Agreeing.{nothing-asked}
 use Rattle.certify.specs.Below.{Code, Operand, LoadMode, Instr, Load, Message, Memory, Thread}
 use Rattle.certify.specs.Certify.{messageOf}
 use Rattle.certify.specs.Asks.{Unmet}

@@ -10,7 +10,7 @@ use native.Mathlib.Omega.{arith}
 use lib.Dec.{T}
 use lib.ListN.{set}
 use lib.Seq.{getD-set-other}
-use Rattle.views.specs.Views.{viewAt, raiseAt}
+use Rattle.theory_views.specs.Views.{viewAt, raiseAt}
 use Rattle.machine.specs.State.{noMessage, messageAt, append}
 use Rattle.machine.specs.Rules.{next, valueOf, viewOf, viewOf₂, computeDone, branchDone, fenceDone, readable, noneNewer, loadDone, storePre, storeDone, execute, addPromise}
 use Rattle.machine.proofs.Sets.{has-positive}

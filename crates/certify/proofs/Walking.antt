@@ -12,15 +12,15 @@ use lib.Dec.{eqb}
 use lib.ListN.{length, length-set, getD, set, List·getD-eq-default}
 use lib.Seq.{set-out, getD-set-same, getD-set-other}
 use borrow.Author.Tests.{lt-ltb, eq-eqb, ne-eqb}
-use Rattle.source.specs.declared.Instruction.{Instruction}
-use Rattle.source.specs.Program.{operand, computeMode, fenceMode, decode, instructionAt, instrAt}
-use Rattle.source.proofs.Counts.{there}
-use Rattle.source.proofs.Formed.{CodeOk}
+use Rattle.program.specs.declared.Instruction.{Instruction}
+use Rattle.program.specs.Program.{operand, computeMode, fenceMode, decode, instructionAt, instrAt}
+use Rattle.program.proofs.Counts.{there}
+use Rattle.program.proofs.Formed.{CodeOk}
 use Rattle.machine.specs.State.{freshRegister, raiseCap}
 use Rattle.machine.specs.Rules.{valueOf, viewOf, combine, computeDone, branchBy, branchDone, fenceViews, fenceDone}
-use Rattle.cares.specs.Cares.{Agrees, careOf, Agreeing, AgreeingBut, firstOf, secondOf, noStep, Tells}
+use Rattle.certify_cares.specs.Cares.{Agrees, careOf, Agreeing, AgreeingBut, firstOf, secondOf, noStep, Tells}
 use Rattle.certify.specs.Below.{Code, OfRegister, Instr, Compute, Branch, Fence, Register, Views, Thread}
-use Rattle.certify.specs.Straight.{Step, resultOf, stepOver, standing, stepAt, plainly, Halts, Walked, start, further, Ended}
+use Rattle.certify.specs.Straight.{Step, resultOf, stepOver, standing, passedAt, plainly, Halts, Walked, start, further, Ended}
 use Rattle.certify.proofs.Plain.{no-thread, plain-compute, plain-branch, plain-fence, op-halts}
 use Rattle.certify.proofs.Backwards.{Backwards, back-none, back-compute, back-branch, back-fence}
 
@@ -111,7 +111,7 @@ pub record On (c : Code) (s : Thread) (registers : List Register) (n : ℕ) (vie
 kept-steps : {c : Code} {s : Thread} {steps : List Step} (j : ℕ) (e : Step) {k : ℕ} {y : Thread} → k ≤ j → Walked c s steps k y → Walked c s (set steps j e) k y
 kept-steps j e l start = start
 kept-steps {c} {s} {steps} j e l (further {j = k} {y = y} x w g p i t) =
-    let same : stepAt (set steps j e) k ≡ stepAt steps k = getD-set-other steps j k e noStep (λ h. omega arith) in
+    let same : passedAt (set steps j e) k ≡ passedAt steps k = getD-set-other steps j k e noStep (λ h. omega arith) in
     further x (kept-steps j e (omega arith) w) g p (ap (λ (v : Step). v .instruction) same ∙ i) (subst (λ (v : Step). Tells v y) (sym same) t)
 
 -- the thread there, and how the way ends
@@ -129,7 +129,7 @@ module _ {c : Code} {s : Thread} {registers : List Register} {n : ℕ} {views : 
 
   one-more : Walked c s (set steps j e) (suc j) (standing s registers' n' views')
   one-more =
-      let here : stepAt (set steps j e) j ≡ e = (let f = o .far in let h = o .steps-long in getD-set-same steps j e noStep (omega arith)) in
+      let here : passedAt (set steps j e) j ≡ e = (let f = o .far in let h = o .steps-long in getD-set-same steps j e noStep (omega arith)) in
       further (decode (e .instruction)) (kept-steps j e (omega arith) (o .walked)) instr-there moved (ap (λ (v : Step). v .instruction) here ∙ is)
       (subst (λ (v : Step). Tells v (standing s registers n views)) (sym here) told)
 
@@ -245,18 +245,18 @@ pub record Back (c : Code) (s z : Thread) (steps : List Step) (j : ℕ) (k cares
   pub backwards : Backwards c from z k cares
 
 module _ (c : Code) (s z : Thread) (steps : List Step) (j : ℕ) (k q r : List ℕ) where
-  back-step : ((y y' : Thread) → plainly (decode ((stepAt steps j) .instruction)) y ≡ some y' → Tells (stepAt steps j) y → instrAt c (y .position) ≡ some (decode ((stepAt steps j) .instruction)) → Backwards c y' z k q → Backwards c y z k r)
+  back-step : ((y y' : Thread) → plainly (decode ((passedAt steps j) .instruction)) y ≡ some y' → Tells (passedAt steps j) y → instrAt c (y .position) ≡ some (decode ((passedAt steps j) .instruction)) → Backwards c y' z k q → Backwards c y z k r)
       → Back c s z steps (suc j) k q → Back c s z steps j k r
   back-step by b = go (b .came) (b .backwards)
     where
       go : {v : Thread} → Walked c s steps (suc j) v → Backwards c v z k q → Back c s z steps j k r
       go (further {y = y} {y' = y'} x w g p i t) rec =
-          let is : x ≡ decode ((stepAt steps j) .instruction) = sym (there c (y .position) x g .1) ∙ ap decode (sym i) in
+          let is : x ≡ decode ((passedAt steps j) .instruction) = sym (there c (y .position) x g .1) ∙ ap decode (sym i) in
           record { from = y; came = w; backwards = by y y' (subst (λ (v : Instr). plainly v y ≡ some y') is p) t (g ∙ ap some is) rec }
 
 module _ (steps : List Step) (n : ℕ) (q r : List ℕ) (l : 0 < n) where
   abbrev last : Step
-  last = stepAt steps (n - 1)
+  last = passedAt steps (n - 1)
 
   -- for any code and threads
   abbrev pub BackOne : Type 0

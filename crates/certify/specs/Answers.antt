@@ -1,13 +1,13 @@
--- The answer of certification; what it asks of a code, a memory and a thread before it starts, and which times are worth a try.
+-- The answer of certify; what it asks of a code, a memory and a thread before it starts, and which times are worth a try.
 -- Assumes nothing.
 use mathlib.Core.Path.{_≡_}
 use mathlib.Core.Bool.{cond, _&&_}
 use mathlib.Core.Option.{some}
 use Prim.Native.Nat.{ℕ, _^_, _≤_, _<_}
 use lib.Dec.{T, ltb}
-use Rattle.source.specs.Program.{instrAt, codeOf}
-use Rattle.source.specs.WellFormed.{programTest}
-use Rattle.source.proofs.Formed.{CodeOk}
+use Rattle.program.specs.Program.{instrAt, codeOf}
+use Rattle.program.specs.WellFormed.{programTest}
+use Rattle.program.proofs.Formed.{CodeOk}
 use Rattle.machine.specs.State.{threadOf, messageAt, has}
 use Rattle.machine.specs.Rules.{next, execute}
 use Rattle.machine.specs.WellFormed.{machineTest}
@@ -17,17 +17,17 @@ pub use Rattle.certify.specs.declared.Certified.{Certified}
 pub use Rattle.certify.specs.declared.Certified.the-variants.{Yes, No, Refused}
 
 -- CERTIFICATION of thread i: program or machine not well formed: 20; no such thread: 21
-unfoldable pub certification : Program → Machine → ℕ → Certified
-certification p x i =
+unfoldable pub certify : Program → Machine → ℕ → Certified
+certify p x i =
     cond (programTest p && machineTest p x)
     (cond (ltb i (p .threads)) (cond (certified (codeOf p i) i (x .memory) (threadOf x i)) Yes No) (Refused 21))
     (Refused 20)
 
 -- document 01's number for each case of the answer, 0 where there is none
-abbrev pub refusalOf : Certified → ℕ
-refusalOf Yes = 0
-refusalOf No = 0
-refusalOf (Refused n) = n
+abbrev pub certifyRefusal : Certified → ℕ
+certifyRefusal Yes = 0
+certifyRefusal No = 0
+certifyRefusal (Refused n) = n
 
 -- branches land within the code; at most 16 messages; promises are at times of the memory
 pub record Ready (c : Code) (m : Memory) (s : Thread) : Type 0 where

@@ -8,7 +8,7 @@ use Prim.Native.Nat.{ℕ, _+_, _*_, _≤_, _<_}
 use lib.Dec.{T, leb, ltb}
 use Rattle.machine.specs.State.{messageAt, has}
 use Rattle.machine.specs.Rules.{valueOf, address}
-use Rattle.cares.specs.Cares.{Marked, Agrees, Agreeing}
+use Rattle.certify_cares.specs.Cares.{Marked, Agrees, Agreeing}
 pub use Rattle.certify.specs.declared.Met.{Met}
 pub use Rattle.certify.specs.declared.Sought.{Sought}
 use Rattle.certify.specs.Below.{Operand, LoadMode, StoreMode, Instr, Load, Store, Memory, Thread}

@@ -3,7 +3,7 @@
 use mathlib.Core.Path.{_≡_}
 use Prim.Native.Nat.{ℕ}
 use Rattle.machine.specs.Rules.{viewOf₂, loadPre, loadDone}
-use Rattle.cares.specs.Cares.{careOf, Agreeing, AgreeingBut}
+use Rattle.certify_cares.specs.Cares.{careOf, Agreeing, AgreeingBut}
 use Rattle.certify.specs.Below.{Operand, LoadMode, Memory, Thread}
 use Rattle.certify.specs.Sought.{Met, Reached}
 use Rattle.certify.specs.Vacant.{cohering}

@@ -4,7 +4,7 @@ use mathlib.Core.Bool.{Bool, false, _&&_, _||_}
 use mathlib.Core.Option.{Option, none, some}
 use Prim.Native.Nat.{ℕ, zero, suc}
 use lib.Dec.{eqb, ltb}
-use Rattle.source.specs.Program.{instrAt}
+use Rattle.program.specs.Program.{instrAt}
 use Rattle.machine.specs.State.{append}
 use Rattle.machine.specs.Rules.{Executed, refused, next, valueOf, address, execute, addPromise}
 use Rattle.certify.specs.Below.{Code, Instr, Compute, Load, Store, Branch, Fence, Message, Memory, Thread}
@@ -40,10 +40,10 @@ oneMore f i m s none = false
 oneMore f i m s (some x) = anyFrom (λ t. onward (f m) (execute x m t s)) 0 (suc (m .count)) || ownMessage f x m s (messageOf i s x)
 
 -- thread i reaches an empty promise set within n instructions
-unfoldable pub certify : ℕ → Code → ℕ → Memory → Thread → Bool
-certify zero c i m s = eqb (s .promises) 0
-certify (suc n) c i m s = eqb (s .promises) 0 || oneMore (certify n c i) i m s (instrAt c (s .position))
+unfoldable pub certifiedWithin : ℕ → Code → ℕ → Memory → Thread → Bool
+certifiedWithin zero c i m s = eqb (s .promises) 0
+certifiedWithin (suc n) c i m s = eqb (s .promises) 0 || oneMore (certifiedWithin n c i) i m s (instrAt c (s .position))
 
 -- CERTIFIED: each instruction moves the position on, so no run is longer than the thread
 unfoldable pub certified : Code → ℕ → Memory → Thread → Bool
-certified c i m s = certify (c .count) c i m s
+certified c i m s = certifiedWithin (c .count) c i m s

@@ -3,7 +3,7 @@
 use mathlib.Core.Path.{_≡_}
 use mathlib.Core.Option.{some}
 use Prim.Native.Nat.{ℕ, _≤_, _<_}
-use Rattle.source.specs.Program.{instrAt}
+use Rattle.program.specs.Program.{instrAt}
 use Rattle.machine.specs.State.{append}
 use Rattle.machine.specs.Rules.{next, execute, addPromise}
 use Rattle.certify.specs.Below.{Code, Instr, Message, Memory, Thread}

@@ -9,11 +9,11 @@ use Prim.Native.Nat.{ℕ, _+_, _-_, _*_, _≤_, _<_}
 use lib.Count.{ones}
 use lib.Dec.{T}
 use lib.ListN.{set}
-use Rattle.source.specs.Program.{instrAt}
-use Rattle.source.specs.Counts.{storesFrom}
+use Rattle.program.specs.Program.{instrAt}
+use Rattle.program.specs.Counts.{storesFrom}
 use Rattle.machine.specs.State.{append}
 use Rattle.machine.specs.Rules.{next, valueOf, address, execute, addPromise}
-use Rattle.cares.specs.Cares.{careOf, Agreeing, AgreeingBut, Covers}
+use Rattle.certify_cares.specs.Cares.{careOf, Agreeing, AgreeingBut, Covers}
 use Rattle.certify.specs.Below.{Code, Operand, LoadMode, StoreMode, Instr, Load, Store, Message, Memory, Thread}
 use Rattle.certify.specs.Certify.{messageOf, onward, certified}
 pub use Rattle.certify.specs.Asks.{Met, Sought}

@@ -7,11 +7,11 @@ use mathlib.Core.List.{List}
 use Prim.Native.Nat.{ℕ, suc, max, _+_, _-_, _<_}
 use lib.Dec.{eqb, leb}
 use lib.ListN.{getD}
-use Rattle.source.specs.declared.Instruction.{Instruction}
-use Rattle.source.specs.Program.{computeMode, instructionAt, instrAt}
+use Rattle.program.specs.declared.Instruction.{Instruction}
+use Rattle.program.specs.Program.{computeMode, instructionAt, instrAt}
 use Rattle.machine.specs.Rules.{valueOf, combine, computeDone, branchBy, branchDone, fenceDone}
-use Rattle.cares.specs.Cares.{noStep, Tells}
-pub use Rattle.cares.specs.declared.before.Step.{Step}
+use Rattle.certify_cares.specs.Cares.{noStep, Tells}
+pub use Rattle.certify_cares.specs.declared.before.Step.{Step}
 use Rattle.certify.specs.Below.{Code, Operand, Instr, Compute, Load, Store, Branch, Fence, Register, Views, Thread}
 
 -- what such an instruction leaves
@@ -44,14 +44,14 @@ abbrev pub standing : Thread → List Register → ℕ → Views → Thread
 standing s registers n views = record { position = n; registers = registers; coherence = s .coherence; forward = s .forward; views = views; promises = s .promises }
 
 -- the step number j
-abbrev pub stepAt : List Step → ℕ → Step
-stepAt steps j = getD steps j noStep
+abbrev pub passedAt : List Step → ℕ → Step
+passedAt steps j = getD steps j noStep
 
 -- WALKED: by j such instructions the thread s comes to be the other, and the steps tell of each
 pub data Walked (c : Code) (s : Thread) (steps : List Step) : ℕ → Thread → Type 0 where
   start : Walked c s steps 0 s
   further : {j : ℕ} {y y' : Thread} (x : Instr) → Walked c s steps j y → instrAt c (y .position) ≡ some x → plainly x y ≡ some y'
-      → (stepAt steps j) .instruction ≡ instructionAt c (y .position) → Tells (stepAt steps j) y → Walked c s steps (suc j) y'
+      → (passedAt steps j) .instruction ≡ instructionAt c (y .position) → Tells (passedAt steps j) y → Walked c s steps (suc j) y'
 
 -- the thread at position n
 abbrev pub atPosition : Thread → ℕ → Thread

@@ -8,7 +8,7 @@ use lib.Dec.{T}
 use lib.ListN.{getD}
 use Rattle.machine.specs.State.{has}
 use Rattle.machine.specs.Rules.{valueOf, address, readValue, readView}
-use Rattle.cares.specs.Cares.{Agrees}
+use Rattle.certify_cares.specs.Cares.{Agrees}
 use Rattle.certify.specs.Below.{Operand, LoadMode, Instr, Load, Memory, Thread}
 
 -- how much of what the load left in its register counted after the try at time u; 3 where it was not tried

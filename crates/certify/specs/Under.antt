@@ -4,10 +4,10 @@ use mathlib.Core.Path.{_≡_}
 use mathlib.Core.List.{List}
 use Prim.Native.Nat.{ℕ, _≤_}
 use lib.ListN.{length, getD}
-use Rattle.views.specs.Views.{viewAt}
+use Rattle.theory_views.specs.Views.{viewAt}
 use Rattle.machine.specs.State.{freshRegister, freshForward}
-use Rattle.cares.specs.Cares.{Agreeing}
-pub use Rattle.lost.specs.Lower.{Lower}
+use Rattle.certify_cares.specs.Cares.{Agreeing}
+pub use Rattle.certify_lost.specs.Lower.{Lower}
 use Rattle.certify.specs.Below.{Forward, Thread}
 
 -- the forward pairs at l: the same time, with a view that is at most the other

@@ -4,7 +4,7 @@ use mathlib.Core.Path.{_≡_}
 use mathlib.Core.Logic.{_⊎_}
 use mathlib.Core.List.{List}
 use Prim.Native.Nat.{ℕ, _+_, _≤_, _<_}
-use Rattle.views.specs.Views.{viewAt}
+use Rattle.theory_views.specs.Views.{viewAt}
 use Rattle.machine.specs.State.{messageAt}
 use Rattle.machine.specs.Rules.{valueOf, address, readView}
 use Rattle.certify.specs.Below.{Operand, LoadMode, Instr, Load, Memory, Thread}

@@ -1,24 +1,24 @@
 // What the tries of a load or store rest on, whatever comes after them.
 ghost use Prim.Native.Nat.{_≤_, _<_};
-ghost use Rattle.cares.specs.Cares.{Agreeing};
+ghost use Rattle.certify_cares.specs.Cares.{Agreeing};
 ghost use Rattle.certify.specs.Asks.{OtherValues, Unsought, LoadsSame, StoreAsks, Asks};
 use crate::Sought;
 use crate::places::place;
 use crate::places::vacancy;
-use cares::Cares;
-use cares::barred::turned;
-use cares::barring;
-use cares::joined;
+use certify_cares::Cares;
+use certify_cares::barred::turned;
+use certify_cares::barring;
+use certify_cares::joined;
 use machine::Memory;
 use machine::Thread;
 use machine::promises::has;
+use program::Instr;
+use program::Operand;
 use rules::operands::address;
 use rules::operands::address_of_sum;
 use rules::operands::value_of;
 use rules::operands::view_of;
-use source::Instr;
-use source::Operand;
-use times::after;
+use rules_times::after;
 
 // The care for a store's data v that it is none of the other values of the promises p to l.
 fn other_values(m: Memory, p: u16, l: u8, v: u8) -> u32

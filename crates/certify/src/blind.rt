@@ -8,18 +8,18 @@ ghost use Rattle.certify.specs.Blind.{unread, Told};
 use crate::Met;
 use crate::idle::lowered;
 use crate::reach::Reached;
-use cares::Cares;
-use live::steering::steers;
-use loads::load_done;
-use loads::load_pre;
-use lost::telling::telling;
+use certify_ahead::steering::steers;
+use certify_cares::Cares;
+use certify_lost::telling::telling;
 use machine::Memory;
 use machine::Thread;
+use program::Code;
+use program::Instr;
+use program::LoadMode;
+use program::Operand;
 use rules::operands::view_of_both;
-use source::Code;
-use source::Instr;
-use source::LoadMode;
-use source::Operand;
+use rules_loads::load_done;
+use rules_loads::load_pre;
 
 // Whether an instruction is known to fail; and then what its search answers.
 pub struct Blind {

@@ -6,9 +6,9 @@ ghost use Rattle.certify.specs.Vacant.{cohering, Idles};
 use crate::window::next_message;
 use machine::Memory;
 use machine::Thread;
+use program::Instr;
 use rules::operands::address_of_sum;
 use rules::operands::value_of;
-use source::Instr;
 
 // The thread y, which x at time t has brought from s, is idle at the location of x: no message is to it, and coherence there is so low that it
 // hinders neither a store with a message of its own nor one that fills the hole.

@@ -22,11 +22,11 @@ ghost use Rattle.certify.specs.Answers.{Ready};
 use machine::Memory;
 use machine::Message;
 use machine::Thread;
+use program::Code;
+use program::Operand;
 use reach::two_reached;
 use rules::operands::address;
 use rules::operands::value_of;
-use source::Code;
-use source::Operand;
 
 // Whether a thread is certified, or the number of the refusal.
 pub enum Certified {

@@ -2,17 +2,17 @@
 ghost use mathlib.Core.Path.{_≡_};
 ghost use mathlib.Core.Bool.{true};
 ghost use Prim.Native.Nat.{ℕ, _≤_, _<_};
-ghost use Rattle.cares.specs.Cares.{Marked};
+ghost use Rattle.certify_cares.specs.Cares.{Marked};
 ghost use Rattle.certify.specs.Asks.{Located, SoughtIn, Elsewhere};
 ghost use Rattle.certify.specs.Vacant.{Vacant};
 use crate::Sought;
-use cares::barred::either;
-use cares::barred::marked;
-use cares::barred::marking;
-use lost::wanted::filling;
+use certify_cares::barred::either;
+use certify_cares::barred::marked;
+use certify_cares::barred::marking;
+use certify_lost::wanted::filling;
 use machine::Memory;
 use machine::promises::has;
-use times::after;
+use rules_times::after;
 
 // The locations of the messages at the times of the set p.
 fn locations(m: Memory, p: u16) -> u16

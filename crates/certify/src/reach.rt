@@ -2,7 +2,7 @@
 ghost use mathlib.Core.Path.{_≡_};
 ghost use mathlib.Core.Bool.{true, false};
 ghost use Prim.Native.Nat.{_≤_, _<_};
-ghost use Rattle.cares.specs.Cares.{Covers};
+ghost use Rattle.certify_cares.specs.Cares.{Covers};
 ghost use Rattle.certify.specs.Answers.{Ready, Trying};
 ghost use Rattle.certify.specs.Asks.{Stores};
 ghost use Rattle.certify.specs.Straight.{Forked, Walked};
@@ -33,20 +33,20 @@ use crate::tried::noted;
 use crate::tried::untried;
 use crate::window::earliest;
 use crate::window::following;
-use cares::Cares;
-use cares::barring;
-use live::loads_ahead;
-use lost::fruitless;
+use certify_ahead::loads_ahead;
+use certify_cares::Cares;
+use certify_cares::barring;
+use certify_lost::fruitless;
 use machine::Memory;
 use machine::RuleAnswer;
 use machine::Thread;
 use machine::promises::has;
+use program::Code;
+use program::Instr;
 use rules::execute;
 use rules::operands::view_of;
 use rules::own_store;
-use source::Code;
-use source::Instr;
-use stores::below_time;
+use rules_stores::below_time;
 
 // The two least numbers met; and what it rests on that no other is met that is sought.
 pub struct Reached {

@@ -5,23 +5,23 @@ ghost use mathlib.Core.Bool.{true, false};
 ghost use Prim.Native.Nat.{_+_, _%_, _≤_, _<_};
 ghost use lib.Dec.{eqb};
 ghost use lib.ListN.{length, getD};
-ghost use Rattle.source.specs.Program.{operand, computeMode, fenceMode};
-ghost use Rattle.source.proofs.Formed.{CodeOk};
+ghost use Rattle.program.specs.Program.{operand, computeMode, fenceMode};
+ghost use Rattle.program.proofs.Formed.{CodeOk};
 ghost use Rattle.machine.specs.State.{freshRegister};
 ghost use Rattle.machine.specs.Rules.{valueOf, viewOf, combine, branchBy, fenceViews};
 ghost use Rattle.certify.specs.Below.{Code, Thread};
 ghost use Rattle.certify.specs.Under.{Rests};
 ghost use Rattle.certify.specs.Straight.{Leads, Halts, resultOf, stepOver, standing, Walked, Ended, atPosition};
-use cares::Cares;
-use cares::before::Step;
-use cares::before::before_branch;
-use cares::before::before_compute;
+use certify_cares::Cares;
+use certify_cares::before::Step;
+use certify_cares::before::before_branch;
+use certify_cares::before::before_compute;
 use machine::Register;
 use machine::Thread;
 use machine::Views;
 use machine::merge::larger;
-use source::Code;
-use source::Instruction;
+use program::Code;
+use program::Instruction;
 
 // Where a thread has come to, and the instructions that it has gone through, in order. Where the last of them is a branch to be looked at both
 // ways, the position to which it leads on the other way; else 0.

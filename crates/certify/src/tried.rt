@@ -5,17 +5,17 @@ ghost use Prim.Native.Nat.{_+_, _≤_, _<_};
 ghost use lib.Count.{ones};
 ghost use lib.Dec.{ltb};
 ghost use lib.ListN.{replicate};
-ghost use Rattle.source.specs.Counts.{storesFrom};
+ghost use Rattle.program.specs.Counts.{storesFrom};
 ghost use Rattle.certify.specs.Sought.{Appends, Hopeless, Noted};
 use crate::reach::Reached;
 use crate::reach::Tried;
 use crate::vain::in_vain;
-use live::fewer_stores;
+use certify_ahead::fewer_stores;
 use machine::Memory;
 use machine::Thread;
 use machine::merge::smaller;
-use source::Code;
-use source::Instr;
+use program::Code;
+use program::Instr;
 
 // More promises are outstanding than stores are left at position n and after it.
 fn crowded(c: Code, n: u8, s: Thread) -> bool

@@ -3,19 +3,19 @@ ghost use mathlib.Core.Path.{_≡_};
 ghost use mathlib.Core.Bool.{true, cond};
 ghost use Prim.Native.Nat.{_≤_, _<_};
 ghost use lib.Dec.{eqb};
-ghost use Rattle.cares.specs.Cares.{Agrees};
+ghost use Rattle.certify_cares.specs.Cares.{Agrees};
 ghost use Rattle.certify.specs.Tries.{Doubled, Vain, LeftOut, PassedOver};
-use cares::agrees;
-use loads::read_value;
+use certify_cares::agrees;
 use machine::Forward;
 use machine::Memory;
 use machine::Thread;
 use machine::promises::has;
 use machine::promises::without;
+use program::Instr;
 use rules::operands::address_of_sum;
 use rules::operands::value_of;
-use source::Instr;
-use times::after;
+use rules_loads::read_value;
+use rules_times::after;
 
 // A try, if it was made (its care is not 3), left no larger view than another leaves, and the same value as far as that counted.
 fn no_better(care: u32, view: u8, value: u8, limit: u8, wanted: u8) -> bool

@@ -1,17 +1,17 @@
 // The times at which an instruction is worth a try, one by one.
 ghost use Prim.Native.Nat.{_≤_};
 ghost use Rattle.certify.specs.Answers.{Earliest, Following, NextKept, NextMessage, Stands};
-use loads::load_pre;
 use machine::Memory;
 use machine::Thread;
 use machine::merge::larger;
 use machine::merge::smaller;
+use program::Instr;
 use rules::operands::address;
 use rules::operands::address_of_sum;
 use rules::operands::value_of;
 use rules::operands::view_of_both;
-use source::Instr;
-use times::after;
+use rules_loads::load_pre;
+use rules_times::after;
 
 // The newest time up to v at which a message to l stands, or 0.
 fn newest(m: Memory, l: u8, v: u8) -> u8

@@ -11,13 +11,13 @@ use lib.Seq.{length-take-le}
 use borrow.Author.Tests.{le-leb, leb-true, ne-eqb}
 use Rattle.search.specs.declared.Answer.{Answer}
 use Rattle.search.specs.Answers.{answerOn, areaOn, Searched}
-use Rattle.source.specs.declared.Instruction.{Instruction}
-use Rattle.source.specs.declared.Condition.{Condition}
-use Rattle.source.specs.declared.Program.{Program}
-use Rattle.source.specs.Program.{noProgram, codeOf}
-use Rattle.source.specs.Counts.{oneStore}
-use Rattle.source.specs.WellFormed.{instructionTests, conditionTests}
-use Rattle.source.specs.File.{Reading, stopped, reading, FileAnswer, byteAt, demand, marked, inRange, withHeader, readHeader, instructionOf, withInstruction, readInstruction, readInstructions, readThread, readThreads, conditionOf, withQuestion, readCondition, readConditions, readQuestion, readEnd, readBody, readFile}
+use Rattle.program.specs.declared.Instruction.{Instruction}
+use Rattle.program.specs.declared.Condition.{Condition}
+use Rattle.program.specs.declared.Program.{Program}
+use Rattle.program.specs.Program.{noProgram, codeOf}
+use Rattle.program.specs.Counts.{oneStore}
+use Rattle.program.specs.WellFormed.{instructionTests, conditionTests}
+use Rattle.program.specs.File.{Reading, stopped, reading, FileAnswer, byteAt, demand, marked, inRange, withHeader, readHeader, instructionOf, withInstruction, readInstruction, readInstructions, readThread, readThreads, conditionOf, withQuestion, readCondition, readConditions, readQuestion, readEnd, readBody, readFile}
 
 -- the reading has come to place n at most
 abbrev Upto : ℕ → Reading → Type 0

@@ -7,14 +7,14 @@ use Prim.Native.Nat.{ℕ, _*_, _≤_}
 use native.Mathlib.Omega.{arith}
 use lib.Dec.{ltb}
 use lib.ListN.{length, drop, length-append}
-use Rattle.source.specs.File.{FileAnswer, refused, program, readFile}
+use Rattle.program.specs.File.{FileAnswer, refused, program, readFile}
 use Rattle.step.specs.Step.{Step}
 use Rattle.step.specs.Trace.{traceBytes}
-use Rattle.sequences.specs.Answer as sequences
-use Rattle.listing.specs.Listing.{answerTo}
+use Rattle.theory_sequences.specs.Answer as sequences
+use Rattle.search_sequences.specs.OfProgram.{answerTo}
 use Rattle.search.specs.declared.Answer.{Answer}
 use Rattle.search.specs.Answers.{answerOf, areaOf, refusal, answerOn, areaOn, Searched}
-use Rattle.arrivals.proofs.Telling.{trace-length}
+use Rattle.search_arrivals.proofs.Telling.{trace-length}
 
 on-program : (a : sequences.Answer Step) (area : List ℕ) → 6 * (answerOf a) .steps ≤ length (areaOf a area)
 on-program (sequences.allowed n q) area =

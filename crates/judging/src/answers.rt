@@ -1,10 +1,10 @@
 // An answer printed as document 01 says: the verdict, the count, and a line for each step of the trace; or the refusal.
 ghost use Prim.Native.Nat.{_*_, _≤_};
 ghost use lib.ListN.{length};
-use rows::byte;
-use rows::count;
-use rows::number;
-use rows::text;
+use cases_rows::byte;
+use cases_rows::count;
+use cases_rows::number;
+use cases_rows::text;
 use search::Answer;
 use search::Verdict;
 

@@ -2,8 +2,8 @@
 mod answers;
 
 use answers::answer;
-use budgets::Budget;
-use budgets::budget_of;
+use judge_budget::Budget;
+use judge_budget::budget_of;
 use libc::STDERR_FILENO;
 use libc::STDIN_FILENO;
 
@@ -15,7 +15,7 @@ fn complain(what: &[u8]) {
 
 fn judge_file(file: &[u8], budget: u64) {
     let mut area = [0u8; 480];
-    let mut table = table::empty();
+    let mut table = search_table::empty();
     let a = search::search_within(file, budget, &mut area, &mut table);
     answer(a, &area);
 }

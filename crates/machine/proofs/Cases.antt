@@ -8,11 +8,11 @@ use native.Mathlib.Omega.{arith}
 use lib.Dec.{T}
 use lib.ListN.{length}
 use borrow.Author.Tests.{le-leb, eq-eqb, not-true, not-false}
-use Rattle.views.specs.Views.{viewAt}
-use Rattle.source.specs.Program.{instrAt}
-use Rattle.source.proofs.Tests.{and-left, is-true}
-use Rattle.source.proofs.Counts.{there}
-use Rattle.source.proofs.Formed.{CodeOk}
+use Rattle.theory_views.specs.Views.{viewAt}
+use Rattle.program.specs.Program.{instrAt}
+use Rattle.program.proofs.Tests.{and-left, is-true}
+use Rattle.program.proofs.Counts.{there}
+use Rattle.program.proofs.Formed.{CodeOk}
 use Rattle.machine.specs.Below.{Code, Operand, Constant, OfRegister, LoadMode, StoreMode, Instr, Compute, Load, Store, Branch, Fence}
 use Rattle.machine.specs.State.{Message, Memory, Thread, append, has, with, withPromises}
 use Rattle.machine.specs.Rules.{Executed, refused, next, valueOf, viewOf, address, loadPre, readable, noneNewer, readView, loadDone, loadAt, promised, storeDone, storeAt, execute, addPromise}

@@ -6,8 +6,8 @@ use mathlib.Core.Bool.{Bool, true, false, _&&_}
 use Prim.Native.Nat.{ℕ, max, _+_, _≤_, _<_}
 use native.Mathlib.Omega.{arith}
 use lib.Dec.{T, eqb, leb, ltb, eqb→eq, leb→le, ltb→lt}
-use Rattle.views.specs.Views.{viewAt}
-use Rattle.source.proofs.Tests.{or-cases, and-left, and-right}
+use Rattle.theory_views.specs.Views.{viewAt}
+use Rattle.program.proofs.Tests.{or-cases, and-left, and-right}
 use Rattle.machine.specs.Below.{Operand, ComputeMode, LoadMode, StoreMode, FenceMode, Instr, Compute, Load, Store, Branch, Fence}
 use Rattle.machine.specs.State.{Memory, Thread, messageAt, has}
 use Rattle.machine.specs.Rules.{Executed, next, test, valueOf, viewOf, viewOf₂, address, computeDone, branchBy, branchDone, loadPre, readable, noneNewer, readView, loadDone, loadAt, storePre, promised, storeDone, storeAt, fenceDone, execute}

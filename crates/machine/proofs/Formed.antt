@@ -11,10 +11,10 @@ use native.Mathlib.Omega.{arith}
 use lib.Dec.{T, eqb, leb, eqb→eq, leb→le, le→leb, ltb→lt, lt→ltb}
 use lib.ListN.{length, getD, replicate, length-replicate, getD-replicate, List·getD-eq-default}
 use lib.Seq.{ext-getD}
-use Rattle.views.specs.Views.{viewAt}
-use Rattle.source.specs.Tests.{allOf, below}
-use Rattle.source.specs.Program.{codeOf}
-use Rattle.source.proofs.Tests.{and-left, and-right, and-both, eq→eqb, implied, implies, end, also, all-each, all-at, below-at, below-all, below-used, below-spare, below-both}
+use Rattle.theory_views.specs.Views.{viewAt}
+use Rattle.program.specs.Tests.{allOf, below}
+use Rattle.program.specs.Program.{codeOf}
+use Rattle.program.proofs.Tests.{and-left, and-right, and-both, eq→eqb, implied, implies, end, also, all-each, all-at, below-at, below-all, below-used, below-spare, below-both}
 use Rattle.machine.specs.Below.{Code, Program}
 use Rattle.machine.specs.State.{Message, Memory, Register, Forward, Views, Thread, Machine, noMessage, freshRegister, freshForward, freshViews, freshThread, threadOf, messageAt, has}
 use Rattle.machine.specs.WellFormed.{messageTest, unusedMessage, memoryTest, viewsTest, ownTest, threadTest, unusedThread, machineTest}

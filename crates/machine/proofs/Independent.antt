@@ -6,7 +6,7 @@ use mathlib.Core.List.{List}
 use Prim.Native.Nat.{ℕ, max, _+_}
 use native.Mathlib.Omega.{arith}
 use lib.ListN.{getD}
-use Rattle.views.specs.Views.{viewAt}
+use Rattle.theory_views.specs.Views.{viewAt}
 use Rattle.machine.specs.Below.{Operand, Constant, OfRegister, LoadMode, PlainLoad, Acquire, WeakAcquire, Load}
 use Rattle.machine.specs.State.{Memory, Register, Views, Thread, freshRegister, withViews, withPromises}
 use Rattle.machine.specs.Rules.{Executed, refused, next, test, valueOf, viewOf, viewOf₂, address, loadPre, readable, noneNewer, loadAt, execute}

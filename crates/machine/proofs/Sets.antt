@@ -10,7 +10,7 @@ use native.Mathlib.Omega.{arith}
 use lib.Count.{ones, ones-step}
 use lib.Dec.{T, eqb, ltb, eqb→eq, ltb→lt, lt→ltb}
 use lib.Pow.{shr-shr, pow-mono}
-use Rattle.source.proofs.Tests.{and-left, and-right, and-both, eq→eqb}
+use Rattle.program.proofs.Tests.{and-left, and-right, and-both, eq→eqb}
 use Rattle.machine.specs.State.{has, with, without}
 
 -- ---- by digits

@@ -11,7 +11,7 @@ use lib.Count.{ones, ones-step, trailingZeros}
 use lib.Dec.{T, eqb, ltb, eqb→eq}
 use lib.Pow.{pow-lt}
 use borrow.Author.Tests.{ne-eqb, lt-ltb}
-use Rattle.source.proofs.Tests.{and-right, is-false}
+use Rattle.program.proofs.Tests.{and-right, is-false}
 use Rattle.machine.specs.State.{has}
 use Rattle.machine.specs.Promises.{First}
 use Rattle.machine.proofs.Sets.{has-positive, has-time, ones-none}

@@ -3,7 +3,7 @@
 use mathlib.Core.Bool.{Bool, _&&_}
 use Prim.Native.Nat.{ℕ, max, _+_}
 use lib.Dec.{ltb}
-use Rattle.views.specs.Views.{viewAt}
+use Rattle.theory_views.specs.Views.{viewAt}
 use Rattle.machine.specs.Below.{Operand, StoreMode, Instr, Compute, Load, Store, Branch, Fence}
 use Rattle.machine.specs.State.{Message, Memory, Thread, append, raiseCoherence, withForward, withViews}
 use Rattle.machine.specs.Rules.{Executed, refused, next, test, valueOf, address, advance, storePre, storeViews, execute, addPromise}

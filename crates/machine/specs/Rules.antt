@@ -5,8 +5,8 @@ use Prim.Native.Nat.{ℕ, suc, max, _+_, _-_, _%_}
 use lib.Dec.{eqb, leb, ltb}
 use lib.Bits.{bitXor}
 use lib.ListN.{getD}
-use Rattle.views.specs.Views.{viewAt}
-use Rattle.source.specs.Tests.{below}
+use Rattle.theory_views.specs.Views.{viewAt}
+use Rattle.program.specs.Tests.{below}
 use Rattle.machine.specs.Below.{Operand, Constant, OfRegister, ComputeMode, Add, Subtract, ExclusiveOr, Equal, LoadMode, PlainLoad, Acquire, WeakAcquire, StoreMode, PlainStore, Release, FenceMode, DmbSy, DmbLd, DmbSt, Isb, Instr, Compute, Load, Store, Branch, Fence}
 use Rattle.machine.specs.State.{Memory, Views, Thread, freshRegister, freshForward, messageAt, has, with, without, raiseROld, raiseWOld, raiseRNew, raiseWNew, raiseCap, raiseRel, withPosition, withRegister, raiseCoherence, withForward, withViews, withPromises}
 

@@ -4,7 +4,7 @@ use mathlib.Core.Bool.{Bool, _&&_}
 use Prim.Native.Nat.{ℕ, max, _+_, _-_, _/_, _%_, _^_}
 use lib.Dec.{eqb, ltb}
 use lib.ListN.{getD, set, replicate}
-use Rattle.views.specs.Views.{raiseAt}
+use Rattle.theory_views.specs.Views.{raiseAt}
 pub use Rattle.machine.specs.declared.Message.{Message}
 pub use Rattle.machine.specs.declared.Memory.{Memory}
 pub use Rattle.machine.specs.declared.Register.{Register}

@@ -5,10 +5,10 @@ use mathlib.Core.List.{[], _∷_}
 use Prim.Native.Nat.{ℕ, suc, _^_}
 use lib.Dec.{T, eqb, leb, ltb}
 use lib.ListN.{length, getD}
-use Rattle.views.specs.Views.{viewAt}
-use Rattle.source.specs.Tests.{allOf, below}
-use Rattle.source.specs.Program.{codeOf}
-use Rattle.source.specs.WellFormed.{programTest}
+use Rattle.theory_views.specs.Views.{viewAt}
+use Rattle.program.specs.Tests.{allOf, below}
+use Rattle.program.specs.Program.{codeOf}
+use Rattle.program.specs.WellFormed.{programTest}
 use Rattle.machine.specs.Below.{Code, Program}
 use Rattle.machine.specs.State.{Message, Memory, Views, Thread, Machine, freshRegister, freshForward, threadOf, messageAt, has}
 

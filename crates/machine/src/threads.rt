@@ -2,7 +2,7 @@
 ghost use mathlib.Core.Path.{_≡_};
 ghost use Prim.Native.Nat.{_+_, _<_};
 ghost use lib.ListN.{getD};
-ghost use Rattle.views.specs.Views.{viewAt};
+ghost use Rattle.theory_views.specs.Views.{viewAt};
 ghost use Rattle.machine.specs.State.{freshRegister, freshForward, withPosition, withRegister, raiseCoherence, withForward, withViews, withPromises};
 ghost use Rattle.machine.specs.Rules.{advance};
 use crate::Forward;

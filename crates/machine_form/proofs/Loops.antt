@@ -9,10 +9,10 @@ use lib.Dec.{T, eqb, leb, leb→le}
 use lib.ListN.{getD}
 use lib.Pow.{pow-lt}
 use borrow.Author.Tests.{lt-ltb, lt-leb, ne-eqb}
-use Rattle.views.specs.Views.{viewAt}
-use Rattle.source.specs.Tests.{below}
-use Rattle.source.proofs.Tests.{all-at}
-use Rattle.source.proofs.Loops.{below-same}
+use Rattle.theory_views.specs.Views.{viewAt}
+use Rattle.program.specs.Tests.{below}
+use Rattle.program.proofs.Tests.{all-at}
+use Rattle.program.proofs.Loops.{below-same}
 use Rattle.machine.specs.declared.Memory.{Memory}
 use Rattle.machine.specs.declared.Thread.{Thread}
 use Rattle.machine.specs.State.{freshForward, has}

@@ -5,10 +5,10 @@ ghost use mathlib.Core.Bool.{not, cond, _&&_, _||_};
 ghost use Prim.Native.Nat.{suc, _<_, _≤_, _^_};
 ghost use lib.Dec.{eqb, leb, ltb};
 ghost use lib.ListN.{getD};
-ghost use Rattle.views.specs.Views.{viewAt};
-ghost use Rattle.source.specs.Tests.{below};
-ghost use Rattle.source.specs.Program.{codeOf};
-ghost use Rattle.source.specs.WellFormed.{programTest};
+ghost use Rattle.theory_views.specs.Views.{viewAt};
+ghost use Rattle.program.specs.Tests.{below};
+ghost use Rattle.program.specs.Program.{codeOf};
+ghost use Rattle.program.specs.WellFormed.{programTest};
 ghost use Rattle.machine.specs.State.{freshRegister, freshForward, threadOf, has};
 ghost use Rattle.machine.specs.WellFormed.{messageTest, unusedMessage, memoryTest, viewsTest, ownTest, threadTest, unusedThread, machineTest};
 use machine::Machine;
@@ -16,9 +16,9 @@ use machine::Memory;
 use machine::Message;
 use machine::Thread;
 use machine::Views;
+use program::Code;
+use program::Program;
 use program_form::program_formed;
-use source::Code;
-use source::Program;
 
 // ---- memory
 fn message_test(threads: u8, w: Message) -> bool

@@ -1,186 +1,193 @@
-// The program file, read front to back, record by record.
+// A program by value, as its file has it, and the instructions that its bytes stand for.
 ghost use mathlib.Core.Path.{_≡_};
-ghost use Prim.Native.Nat.{_+_, _≤_, _<_};
-ghost use lib.ListN.{length, set};
-ghost use Rattle.source.specs.Program.{noProgram};
-ghost use Rattle.source.specs.File.{reading, conditionOf, withHeader, withQuestion, readHeader, readBody, readCondition, readConditions, readQuestion, readEnd, readFile, refused};
-ghost use Rattle.source.specs.Answers.{fileRead};
-ghost use Rattle.cursor.specs.Cursors.{cursorOf, readingOf, Inside, Sound};
-use cursor::Cursor;
-use cursor::Progress;
-use cursor::fault;
-use cursor::go_on;
-use cursor::no_program;
-use cursor::stop;
-use range::condition_fault;
-use source::Condition;
-pub use source::FileRead;
-pub use source::Program;
-pub use source::ReadAnswer;
-use thread_records::read_threads;
+ghost use mathlib.Core.Option.{some};
+ghost use Prim.Native.Nat.{_<_};
+ghost use Rattle.program.specs.Program.{operand, computeMode, loadMode, storeMode, fenceMode, decode, instructionAt, instrAt, codeOf};
+ghost use Rattle.program.specs.Counts.{oneStore};
 
-// ---- the program record
-fn with_header(v: u8, n: u8) -> Program
-    ensures { λ r. ⌜ r ≡ withHeader v n noProgram ⌝ }
-{
-    let mut p = no_program();
-    p.version = v;
-    p.threads = n;
-    p
+// An instruction's seven bytes. The operand (k, n) is the constant n for k = 0, the register n for k = 1.
+pub struct Instruction {
+    pub op: u8,
+    pub m: u8,
+    pub r: u8,
+    pub k1: u8,
+    pub n1: u8,
+    pub k2: u8,
+    pub n2: u8,
 }
 
-fn read_header(file: &[u8]) -> Cursor
-    ensures { λ r. ⌜ r ≡ cursorOf (readHeader (now (file .entry))) ⌝ }
-{
-    let wrong = fault(file, 0, 0x50, 0x47, 2);
-    if 0 < wrong {
-        return stop(wrong, 0);
-    }
-    let v = file[2];
-    if v != 1 {
-        return stop(3, 2);
-    }
-    let n = file[3];
-    if n < 1 {
-        return stop(4, 3);
-    }
-    if 4 < n {
-        return stop(4, 3);
-    }
-    go_on(4, 0, with_header(v, n))
+// A thread's instructions: the first `count` entries; the others are 0.
+pub struct Code {
+    pub instructions: [Instruction; 16],
+    pub count: u8,
 }
 
-fn read_body(file: &[u8], c: Cursor) -> Cursor
-    requires { ⌜ Sound (now file) c ⌝ }
-    ensures { λ r. ⌜ r ≡ cursorOf (readBody (now (file .entry)) (readingOf c)) ⌝ }
-{
-    let g = c.progress;
-    let Progress::Going(at, s) = g else {
-        return c;
-    };
-    let p = c.program;
-    read_threads(file, p.threads as usize, at, s, p)
+// Kind 0: register `index` of `thread` has `value`; kind 1: location `index` ends with `value`.
+pub struct Condition {
+    pub kind: u8,
+    pub thread: u8,
+    pub index: u8,
+    pub value: u8,
 }
 
-// ---- a condition record
-fn condition_at(file: &[u8], at: usize) -> Condition
-    requires { ⌜ at + 6 ≤ length (now file) ⌝ }
-    ensures { λ r. ⌜ r ≡ conditionOf (now (file .entry)) at ⌝ }
+pub struct Program {
+    pub codes: [Code; 4],
+    pub question: [Condition; 8],
+    pub version: u8,
+    pub threads: u8,
+    pub conditions: u8,
+}
+
+pub enum Operand {
+    Constant(u8),
+    OfRegister(u8),
+}
+
+pub enum ComputeMode {
+    Add,
+    Subtract,
+    ExclusiveOr,
+    Equal,
+}
+
+pub enum LoadMode {
+    PlainLoad,
+    Acquire,
+    WeakAcquire,
+}
+
+pub enum StoreMode {
+    PlainStore,
+    Release,
+}
+
+pub enum FenceMode {
+    DmbSy,
+    DmbLd,
+    DmbSt,
+    Isb,
+}
+
+// What an instruction's bytes stand for.
+pub enum Instr {
+    Compute(ComputeMode, u8, Operand, Operand),
+    Load(LoadMode, u8, Operand, Operand),
+    Store(StoreMode, Operand, Operand),
+    Branch(u8, Operand, Operand),
+    Fence(FenceMode),
+}
+
+// The answer to a file: a program, or the number and the place of the refusal.
+pub enum ReadAnswer {
+    Good,
+    Refused(u8, usize),
+}
+
+pub struct FileRead {
+    pub answer: ReadAnswer,
+    pub program: Program,
+}
+
+fn operand_of(k: u8, n: u8) -> Operand
+    ensures { λ r. ⌜ r ≡ operand k n ⌝ }
 {
-    Condition {
-        kind: file[at + 2],
-        thread: file[at + 3],
-        index: file[at + 4],
-        value: file[at + 5],
+    if k == 0 {
+        Operand::Constant(n)
+    } else {
+        Operand::OfRegister(n)
     }
 }
 
-fn with_condition(mut p: Program, k: usize, x: Condition) -> Program
-    requires { ⌜ k < 8 ⌝ }
-    ensures { λ r. ⌜ r ≡ withQuestion (p .conditions) (set (p .question) k x) p ⌝ }
+fn compute_mode(m: u8) -> ComputeMode
+    ensures { λ r. ⌜ r ≡ computeMode m ⌝ }
 {
-    p.question[k] = x;
-    p
+    match m {
+        0 => ComputeMode::Add,
+        1 => ComputeMode::Subtract,
+        2 => ComputeMode::ExclusiveOr,
+        _ => ComputeMode::Equal,
+    }
 }
 
-fn read_condition(file: &[u8], k: usize, at: usize, s: u8, p: Program) -> Cursor
-    requires { ⌜ (k < 8) × Inside (now file) at s p ⌝ }
-    ensures { λ r. ⌜ r ≡ cursorOf (readCondition (now (file .entry)) k at s p) ⌝ }
+fn load_mode(m: u8) -> LoadMode
+    ensures { λ r. ⌜ r ≡ loadMode m ⌝ }
 {
-    let wrong = fault(file, at, 0x43, 0x4E, 4);
-    if 0 < wrong {
-        return stop(wrong, at);
+    match m {
+        0 => LoadMode::PlainLoad,
+        1 => LoadMode::Acquire,
+        _ => LoadMode::WeakAcquire,
     }
-    let x = condition_at(file, at);
-    let bad = condition_fault(p.threads, x);
-    if bad < 3 {
-        return stop(8, at + 2 + bad);
-    }
-    go_on(at + 6, s, with_condition(p, k, x))
 }
 
-fn read_conditions(file: &[u8], n: usize, at: usize, s: u8, p: Program) -> Cursor
-    requires { ⌜ (n ≤ 8) × Inside (now file) at s p ⌝ }
-    ensures { λ r. ⌜ r ≡ cursorOf (readConditions (now (file .entry)) n 0 (reading at s p)) ⌝ }
+fn store_mode(m: u8) -> StoreMode
+    ensures { λ r. ⌜ r ≡ storeMode m ⌝ }
 {
-    let mut c = go_on(at, s, p);
-    for k in 0..n {
-        let g = c.progress;
-        let Progress::Going(a, t) = g else {
-            return c;
-        };
-        c = read_condition(file, k, a, t, c.program);
+    if m == 0 {
+        StoreMode::PlainStore
+    } else {
+        StoreMode::Release
     }
-    c
 }
 
-// ---- the question record
-fn with_conditions(mut p: Program, n: u8) -> Program
-    ensures { λ r. ⌜ r ≡ withQuestion n (p .question) p ⌝ }
+fn fence_mode(m: u8) -> FenceMode
+    ensures { λ r. ⌜ r ≡ fenceMode m ⌝ }
 {
-    p.conditions = n;
-    p
+    match m {
+        0 => FenceMode::DmbSy,
+        1 => FenceMode::DmbLd,
+        2 => FenceMode::DmbSt,
+        _ => FenceMode::Isb,
+    }
 }
 
-fn read_question(file: &[u8], c: Cursor) -> Cursor
-    requires { ⌜ Sound (now file) c ⌝ }
-    ensures { λ r. ⌜ r ≡ cursorOf (readQuestion (now (file .entry)) (readingOf c)) ⌝ }
-{
-    let g = c.progress;
-    let Progress::Going(at, s) = g else {
-        return c;
-    };
-    let wrong = fault(file, at, 0x51, 0x55, 1);
-    if 0 < wrong {
-        return stop(wrong, at);
-    }
-    let n = file[at + 2];
-    if 8 < n {
-        return stop(8, at + 2);
-    }
-    read_conditions(file, n as usize, at + 3, s, with_conditions(c.program, n))
-}
-
-// ---- the end
-fn read_end(file: &[u8], c: Cursor) -> FileRead
-    ensures { λ r. ⌜ r ≡ fileRead (readEnd (now (file .entry)) (readingOf c)) ⌝ }
-{
-    let g = c.progress;
-    match g {
-        Progress::Stopped(number, place) => refuse(number, place),
-        Progress::Going(at, _) => {
-            let end = file.len();
-            if at == end {
-                let a = ReadAnswer::Good;
-                let p = c.program;
-                FileRead {
-                    answer: a,
-                    program: p,
-                }
-            } else {
-                refuse(9, at)
-            }
+impl Instruction {
+    // What the seven bytes stand for.
+    pub fn decode(self) -> Instr
+        ensures { λ r. ⌜ r ≡ decode self ⌝ }
+    {
+        let a = operand_of(self.k1, self.n1);
+        let b = operand_of(self.k2, self.n2);
+        let op = self.op;
+        match op {
+            0 => Instr::Compute(compute_mode(self.m), self.r, a, b),
+            1 => Instr::Load(load_mode(self.m), self.r, a, b),
+            2 => Instr::Store(store_mode(self.m), a, b),
+            3 => Instr::Branch(self.m, a, b),
+            _ => Instr::Fence(fence_mode(self.m)),
         }
     }
-}
 
-fn refuse(number: u8, place: usize) -> FileRead
-    ensures { λ r. ⌜ r ≡ fileRead (refused number place) ⌝ }
-{
-    let a = ReadAnswer::Refused(number, place);
-    let p = no_program();
-    FileRead {
-        answer: a,
-        program: p,
+    // 1 for a store, 0 for anything else.
+    pub fn one_store(self) -> u8
+        ensures { λ r. ⌜ r ≡ oneStore self ⌝ }
+    {
+        if self.op == 2 { 1 } else { 0 }
     }
 }
 
-// The program of a file; or the number and the place of the refusal, with the program of all 0.
-pub fn read(file: &[u8]) -> FileRead
-    ensures { λ r. ⌜ r ≡ fileRead (readFile (now (file .entry))) ⌝ }
-{
-    read_end(
-        file,
-        read_question(file, read_body(file, read_header(file))),
-    )
+impl Code {
+    // The bytes at a position; whether the position is before the thread's end is the caller's test.
+    pub fn instruction_at(self, n: u8) -> Instruction
+        requires { ⌜ n < 16 ⌝ }
+        ensures { λ r. ⌜ r ≡ instructionAt self n ⌝ }
+    {
+        self.instructions[n as usize]
+    }
+
+    // The instruction at a position before the thread's end.
+    pub fn instr_at(self, n: u8) -> Instr
+        requires { ⌜ (n < 16) × (n < self .count) ⌝ }
+        ensures { λ r. ⌜ instrAt self n ≡ some r ⌝ }
+    {
+        self.instruction_at(n).decode()
+    }
+}
+
+impl Program {
+    pub fn code_of(self, i: u8) -> Code
+        requires { ⌜ i < 4 ⌝ }
+        ensures { λ r. ⌜ r ≡ codeOf self i ⌝ }
+    {
+        self.codes[i as usize]
+    }
 }

@@ -5,16 +5,16 @@ ghost use mathlib.Core.Bool.{true, cond, _&&_};
 ghost use Prim.Native.Nat.{_+_, _<_, _≤_};
 ghost use lib.Dec.{eqb, ltb};
 ghost use lib.ListN.{getD};
-ghost use Rattle.source.specs.Tests.{below};
-ghost use Rattle.source.specs.Program.{noCondition, instructionAt, codeOf};
-ghost use Rattle.source.specs.Counts.{oneStore, storesFrom, stores};
-ghost use Rattle.source.specs.WellFormed.{instructionTest, conditionTest, unusedInstruction, unusedCondition, codeTest, programTest};
-use range::condition_fault;
-use range::instruction_fault;
-use source::Code;
-use source::Condition;
-use source::Instruction;
-use source::Program;
+ghost use Rattle.program.specs.Tests.{below};
+ghost use Rattle.program.specs.Program.{noCondition, instructionAt, codeOf};
+ghost use Rattle.program.specs.Counts.{oneStore, storesFrom, stores};
+ghost use Rattle.program.specs.WellFormed.{instructionTest, conditionTest, unusedInstruction, unusedCondition, codeTest, programTest};
+use file_range::condition_fault;
+use file_range::instruction_fault;
+use program::Code;
+use program::Condition;
+use program::Instruction;
+use program::Program;
 
 // ---- an instruction
 fn instruction_test(n: u8, k: u8, i: Instruction) -> bool

@@ -14,17 +14,17 @@ use crate::operands::view_of_both;
 use crate::plain::branch_done;
 use crate::plain::compute_done;
 use crate::plain::fence_done;
-use loads::load_at;
 use machine::Memory;
 use machine::Ruled;
 use machine::Thread;
 use machine::answers::done;
 use machine::answers::refused;
-use source::Instr;
-use source::Operand;
-use source::StoreMode;
-use stores::own_at;
-use stores::store_at;
+use program::Instr;
+use program::Operand;
+use program::StoreMode;
+use rules_loads::load_at;
+use rules_stores::own_at;
+use rules_stores::store_at;
 
 // What is neither load nor store executes at time 0 only.
 pub fn execute(x: Instr, m: Memory, t: u8, s: Thread) -> Ruled

@@ -4,7 +4,7 @@ ghost use Prim.Native.Nat.{_+_, _<_};
 ghost use Rattle.machine.specs.Rules.{valueOf, viewOf, viewOf₂, address};
 use machine::Thread;
 use machine::merge::larger;
-use source::Operand;
+use program::Operand;
 
 // A constant is itself, a register's value is what it holds.
 pub fn value_of(s: Thread, a: Operand) -> u8

@@ -7,9 +7,9 @@ use crate::operands::view_of_both;
 use machine::Thread;
 use machine::Views;
 use machine::merge::larger;
-use source::ComputeMode;
-use source::FenceMode;
-use source::Operand;
+use program::ComputeMode;
+use program::FenceMode;
+use program::Operand;
 
 pub fn combine(k: ComputeMode, x: u8, y: u8) -> u8
     ensures { λ r. ⌜ r ≡ combine k x y ⌝ }

@@ -7,24 +7,24 @@ use mathlib.Core.Option.{Option, none, some, Option·some-injective}
 use Prim.Native.Nat.{ℕ, _≤_}
 use native.Mathlib.Omega.{arith}
 use lib.ListN.{length}
-use Rattle.source.specs.declared.Program.{Program}
-use Rattle.source.specs.Counts.{size}
-use Rattle.source.specs.File.{program, readFile}
+use Rattle.program.specs.declared.Program.{Program}
+use Rattle.program.specs.Counts.{size}
+use Rattle.program.specs.File.{program, readFile}
 use Rattle.machine.specs.declared.Machine.{Machine}
 use Rattle.machine.specs.State.{fresh}
-use Rattle.sequences.specs.Sequences.{run, wanted}
-use Rattle.sequences.specs.Answer.{allowed}
-use Rattle.sequences.proofs.Listed.{first-step}
+use Rattle.theory_sequences.specs.Sequences.{run, wanted}
+use Rattle.theory_sequences.specs.Answer.{allowed}
+use Rattle.theory_sequences.proofs.Listed.{first-step}
 use Rattle.step.specs.Step.{Step, step}
 use Rattle.step.specs.Outcome.{asked}
 use Rattle.step.specs.Trace.{traceBytes}
-use Rattle.replay.specs.Replay.{ended}
-use Rattle.replay.specs.Answers.{answered, replay}
-use Rattle.replay.specs.InTurn.{InTurn, no-step, a-step}
-use Rattle.replay.proofs.Good.{in-turn-replayed, in-turn-holds}
-use Rattle.listing.specs.Listing.{stepping, sequencesOf, answerTo}
-use Rattle.listing.proofs.Machine.{taken-accepted}
-use Rattle.listing.proofs.Meaning.{bound, listed, demand-3}
+use Rattle.trace_replay.specs.Replay.{ended}
+use Rattle.trace_replay.specs.Answers.{replayed, replay}
+use Rattle.trace_replay.specs.InTurn.{InTurn, no-step, a-step}
+use Rattle.trace_replay.proofs.Good.{in-turn-replayed, in-turn-holds}
+use Rattle.search_sequences.specs.OfProgram.{stepping, sequencesOf, answerTo}
+use Rattle.search_sequences.proofs.Machine.{taken-accepted}
+use Rattle.search_sequences.proofs.Meaning.{bound, listed, demand-3}
 
 -- a run of the search's machine is steps accepted in turn
 pub run-in-turn : (p : Program) (q : List Step) (x y : Machine) → run (stepping p) x q ≡ some y → InTurn p x q y
@@ -52,7 +52,7 @@ found-short p b n q e =
 
 -- FOUND REPLAYS: the trace of an allowed answer is good, and it is complete and the question holds
 pub found-replays : (f : List ℕ) (p : Program) → readFile f ≡ program p → (b n : ℕ) (q : List Step) → answerTo p b ≡ allowed n q
-    → (y : Machine) × (replay f (traceBytes q) ≡ answered p (ended (length q) y)) × ((replay f (traceBytes q)) .holds ≡ true)
+    → (y : Machine) × (replay f (traceBytes q) ≡ replayed p (ended (length q) y)) × ((replay f (traceBytes q)) .holds ≡ true)
 found-replays f p good b n q e =
     let w = wanted-run p q (demand-3 p b (sequencesOf p) (listed p) .allowed-then n q e .is-wanted) in
     let t = run-in-turn p q fresh (w .0) (w .1) in

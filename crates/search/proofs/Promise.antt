@@ -9,20 +9,20 @@ use lib.Dec.{ltb}
 use lib.ListN.{length, take, drop}
 use lib.Seq.{take-at}
 use borrow.Author.Tests.{le-ltb}
-use Rattle.source.specs.declared.Program.{Program}
-use Rattle.source.specs.File.{FileAnswer, refused, program, readFile}
-use Rattle.source.proofs.ReadFormed.{read-formed}
+use Rattle.program.specs.declared.Program.{Program}
+use Rattle.program.specs.File.{FileAnswer, refused, program, readFile}
+use Rattle.program.proofs.ReadFormed.{read-formed}
 use Rattle.machine.specs.State.{fresh}
-use Rattle.sequences.specs.Sequences.{Listed, wanted}
-use Rattle.sequences.specs.Answer as sequences
-use Rattle.sequences.specs.Demand.{Demand}
+use Rattle.theory_sequences.specs.Sequences.{Listed, wanted}
+use Rattle.theory_sequences.specs.Answer as sequences
+use Rattle.theory_sequences.specs.Demand.{Demand}
 use Rattle.step.specs.Step.{Step}
 use Rattle.step.specs.Trace.{traceBytes}
-use Rattle.replay.specs.Answers.{replay}
-use Rattle.listing.specs.Listing.{stepping, answerTo}
-use Rattle.listing.proofs.Meaning.{demand-3, more-budget-allowed, more-budget-forbidden}
-use Rattle.arrivals.proofs.Telling.{trace-length}
-use Rattle.search.specs.Answers.{Verdict, Allowed, Forbidden, NotFinished, Answer, answerOf, areaOf, refusal, answerOn, areaOn, Searched, Within}
+use Rattle.trace_replay.specs.Answers.{replay}
+use Rattle.search_sequences.specs.OfProgram.{stepping, answerTo}
+use Rattle.search_sequences.proofs.Meaning.{demand-3, more-budget-allowed, more-budget-forbidden}
+use Rattle.search_arrivals.proofs.Telling.{trace-length}
+use Rattle.search.specs.Answers.{Verdict, Allowed, Forbidden, NotFinished, Answer, answerOf, areaOf, refusal, answerOn, areaOn, Searched, SearchedWithin}
 use Rattle.search.proofs.Told.{size-small}
 use Rattle.search.proofs.Found.{found-short, found-replays}
 
@@ -31,14 +31,14 @@ pub search-coincide : (f : List ℕ) (b : ℕ) (area : List ℕ) (r r' : Answer)
 search-coincide f b area r r' after after' s s' = (s .answer ∙ sym (s' .answer), s .lent ∙ sym (s' .lent))
 
 -- the same of a search within a table, which is lent memory too
-pub within-coincide : (f : List ℕ) (b : ℕ) (area table : List ℕ) (r r' : Answer) (after after' tableAfter tableAfter' : List ℕ) → Within f b area table r after tableAfter → Within f b area table r' after' tableAfter'
+pub within-coincide : (f : List ℕ) (b : ℕ) (area table : List ℕ) (r r' : Answer) (after after' tableAfter tableAfter' : List ℕ) → SearchedWithin f b area table r after tableAfter → SearchedWithin f b area table r' after' tableAfter'
     → (r ≡ r') × (after ≡ after') × (tableAfter ≡ tableAfter')
 within-coincide f b area table r r' after after' k k' w w' =
     let s = search-coincide f b area r r' after after' (w .searched) (w' .searched) in
     (s .0, s .1, w .lent-table ∙ sym (w' .lent-table))
 
 -- whatever the tables are, and where there is none: the same answer and area
-pub same-within : (f : List ℕ) (b : ℕ) (area table : List ℕ) (r r' : Answer) (after after' tableAfter : List ℕ) → Within f b area table r after tableAfter → Searched f b area r' after' → (r ≡ r') × (after ≡ after')
+pub same-within : (f : List ℕ) (b : ℕ) (area table : List ℕ) (r r' : Answer) (after after' tableAfter : List ℕ) → SearchedWithin f b area table r after tableAfter → Searched f b area r' after' → (r ≡ r') × (after ≡ after')
 same-within f b area table r r' after after' k w s = search-coincide f b area r r' after after' (w .searched) s
 
 -- ---- where nothing is refused

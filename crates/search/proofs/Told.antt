@@ -7,38 +7,38 @@ use native.Mathlib.Omega.{arith}
 use lib.Dec.{T}
 use lib.ListN.{length, drop, replicate}
 use borrow.Author.Tests.{lt-ltb, le-ltb}
-use Rattle.source.specs.declared.FileRead.{FileRead}
-use Rattle.source.specs.declared.Program.{Program}
-use Rattle.source.specs.declared.ReadAnswer.the-variants as reading
-use Rattle.source.specs.Program.{codeOf}
-use Rattle.source.specs.Tests.{sumBelow}
-use Rattle.source.specs.Counts.{instructions, size}
-use Rattle.source.specs.File.{FileAnswer, readFile}
-use Rattle.source.specs.Answers.{fileRead}
-use Rattle.source.specs.WellFormed.{programTest}
-use Rattle.source.proofs.Counts.{sum-le}
-use Rattle.source.proofs.Formed.{program-ok}
-use Rattle.source.proofs.ReadFormed.{read-formed}
+use Rattle.program.specs.declared.FileRead.{FileRead}
+use Rattle.program.specs.declared.Program.{Program}
+use Rattle.program.specs.declared.ReadAnswer.the-variants as reading
+use Rattle.program.specs.Program.{codeOf}
+use Rattle.program.specs.Tests.{sumBelow}
+use Rattle.program.specs.Counts.{instructions, size}
+use Rattle.program.specs.File.{FileAnswer, readFile}
+use Rattle.program.specs.Answers.{fileRead}
+use Rattle.program.specs.WellFormed.{programTest}
+use Rattle.program.proofs.Counts.{sum-le}
+use Rattle.program.proofs.Formed.{program-ok}
+use Rattle.program.proofs.ReadFormed.{read-formed}
 use Rattle.machine.specs.State.{fresh}
-use Rattle.values.specs.Lists.{put}
-use Rattle.sequences.specs.Sequences.{upto, wanted}
-use Rattle.sequences.specs.Answer as sequences
-use Rattle.sequences.proofs.Scan.{Scan, going, found, out, scan, told, answer-told, leftOf, left-le}
+use Rattle.encode_bytes.specs.Lists.{put}
+use Rattle.theory_sequences.specs.Sequences.{upto, wanted}
+use Rattle.theory_sequences.specs.Answer as sequences
+use Rattle.theory_sequences.proofs.Scan.{Scan, going, found, out, scan, told, answer-told, leftOf, left-le}
 use Rattle.step.specs.Step.{Step}
 use Rattle.step.specs.Trace.{traceBytes}
 use Rattle.step.proofs.Bound.{potential-fresh}
 use Rattle.step.proofs.Kept.{fresh-formed}
-use Rattle.replay.proofs.Files.{read-good, read-refused}
-use Rattle.listing.specs.Listing.{stepping, sequencesOf, answerTo}
-use Rattle.search.specs.Answers.{Allowed, Forbidden, NotFinished, Answer, answerOf, areaOf, refusal, answerOn, areaOn, Answers, Within, cleared, tableOn}
-use Rattle.table.specs.Table.{Holds}
-use Rattle.table.proofs.Laws.{holds-cleared}
-use Rattle.arrivals.specs.declared.Ran.{Ran}
-use Rattle.arrivals.specs.declared.Ran.the-variants.{Going, Found, Out}
-use Rattle.arrivals.specs.Visits.{visiting, Tells, Ready, Known}
-use Rattle.listing.proofs.Machine.{lawful}
-use Rattle.arrivals.proofs.Parts.{visiting-is}
-use Rattle.arrivals.proofs.Telling.{trace-length}
+use Rattle.trace_replay.proofs.Files.{read-good, read-refused}
+use Rattle.search_sequences.specs.OfProgram.{stepping, sequencesOf, answerTo}
+use Rattle.search.specs.Answers.{Allowed, Forbidden, NotFinished, Answer, answerOf, areaOf, refusal, answerOn, areaOn, Answers, SearchedWithin, cleared, tableOn}
+use Rattle.search_table.specs.Table.{EverySlot}
+use Rattle.search_table.proofs.Laws.{holds-cleared}
+use Rattle.search_arrivals.specs.declared.Ran.{Ran}
+use Rattle.search_arrivals.specs.declared.Ran.the-variants.{Going, Found, Out}
+use Rattle.search_arrivals.specs.Visits.{visiting, Reports, Visitable, Known}
+use Rattle.search_sequences.proofs.Machine.{lawful}
+use Rattle.search_arrivals.proofs.Parts.{visiting-is}
+use Rattle.search_arrivals.proofs.Telling.{trace-length}
 
 -- ---- the room for every trace
 sixteen-each : (n : ℕ) → sumBelow (λ i. 16) n ≡ 16 * n
@@ -57,7 +57,7 @@ size-small p h =
     let d = o .few-stores in
     omega arith
 
-pub ready-fresh : (p : Program) (area : List ℕ) → T (programTest p) → 480 ≤ length area → Ready p fresh 0 area
+pub ready-fresh : (p : Program) (area : List ℕ) → T (programTest p) → 480 ≤ length area → Visitable p fresh 0 area
 ready-fresh p area h l =
     record {
       well = record { program-formed = h; machine-formed = fresh-formed p h };
@@ -65,8 +65,8 @@ ready-fresh p area h l =
     }
 
 -- a cleared table says nothing
-pub cleared-holds : (p : Program) (n : ℕ) (t : List ℕ) → t ≡ replicate n 0 → Holds (Known p) t
-cleared-holds p n t e = subst (Holds (Known p)) (sym e) (holds-cleared (Known p) n)
+pub cleared-holds : (p : Program) (n : ℕ) (t : List ℕ) → t ≡ replicate n 0 → EverySlot (Known p) t
+cleared-holds p n t e = subst (EverySlot (Known p)) (sym e) (holds-cleared (Known p) n)
 
 -- a table that is cleared once more is as long as it was before the visit, and before it was cleared first
 pub cleared-again : {table : List ℕ} {visited first lent : ℕ} → table ≡ replicate visited 0 → visited ≡ first → first ≡ lent → table ≡ replicate lent 0
@@ -83,7 +83,7 @@ put-first : (q : List Step) (a : List ℕ) → put 0 (traceBytes q) a ≡ traceB
 unfolding put
 put-first q a = let w = trace-length q in let e : 0 + length (traceBytes q) ≡ 6 * length q = omega arith in ap (λ (n : ℕ). traceBytes q ++ drop n a) e
 
-module _ (p : Program) (b : ℕ) (r : Ran) (old new : List ℕ) (t : Tells 0 (visiting p fresh b) r old new) where
+module _ (p : Program) (b : ℕ) (r : Ran) (old new : List ℕ) (t : Reports 0 (visiting p fresh b) r old new) where
   -- the answer, by the one that the visit gave
   ended : Ran → Answer
   ended (Going c) = record { verdict = Forbidden; count = b - c; steps = 0 }
@@ -94,7 +94,7 @@ module _ (p : Program) (b : ℕ) (r : Ran) (old new : List ℕ) (t : Tells 0 (vi
   unfolding ended
   told-is = go (visiting p fresh b) refl t
     where
-      go : (o : Scan Step) → visiting p fresh b ≡ o → Tells 0 o r old new → Answers p b (ended r) old new
+      go : (o : Scan Step) → visiting p fresh b ≡ o → Reports 0 o r old new → Answers p b (ended r) old new
       go (going c) e u =
           let w : answerTo p b ≡ sequences.forbidden (b - c) = sym (told-answer p b) ∙ ap (told b) e in
           record { answer = ap ended (u .answer) ∙ ap answerOf (sym w); lent = u .lent ∙ ap (λ (a : sequences.Answer Step). areaOf a old) (sym w) }
@@ -128,7 +128,7 @@ module _ (p : Program) (b : ℕ) (r : Ran) (old new : List ℕ) (t : Tells 0 (vi
   pub going-left : (c : ℕ) → r ≡ Going c → c ≤ b
   going-left c e = go (visiting p fresh b) left t
     where
-      go : (o : Scan Step) → leftOf o ≤ b → Tells 0 o r old new → c ≤ b
+      go : (o : Scan Step) → leftOf o ≤ b → Reports 0 o r old new → c ≤ b
       go (going k) l u = let q : k ≡ c = let a = u .answer in cc in omega arith
       go (found k q) l u = absurd (let a = u .answer in let z : _≡_ {A = ℕ} 0 1 = cc in omega arith)
       go out l u = absurd (let a = u .answer in let z : _≡_ {A = ℕ} 0 1 = cc in omega arith)
@@ -136,7 +136,7 @@ module _ (p : Program) (b : ℕ) (r : Ran) (old new : List ℕ) (t : Tells 0 (vi
   pub found-left : (c n : ℕ) → r ≡ Found c n → c ≤ b
   found-left c n e = go (visiting p fresh b) left t
     where
-      go : (o : Scan Step) → leftOf o ≤ b → Tells 0 o r old new → c ≤ b
+      go : (o : Scan Step) → leftOf o ≤ b → Reports 0 o r old new → c ≤ b
       go (going k) l u = absurd (let a = u .answer in let z : _≡_ {A = ℕ} 0 1 = cc in omega arith)
       go (found k q) l u = let w : k ≡ c = let a = u .answer in cc in omega arith
       go out l u = absurd (let a = u .answer in let z : _≡_ {A = ℕ} 0 1 = cc in omega arith)
@@ -147,19 +147,19 @@ file-formed f r e h = read-formed f (r .program) (read-good f r e h)
 
 module _ (f : List ℕ) (b : ℕ) (area table : List ℕ) (r : FileRead) (e : r ≡ fileRead (readFile f)) where
   -- what a search answers and leaves, where the file is read as y
-  told-on : (y : FileAnswer) → readFile f ≡ y → (a : Answer) (new table' : List ℕ) → a ≡ answerOn y b area → new ≡ areaOn y b area → table' ≡ tableOn y area table → Within f b area table a new table'
+  told-on : (y : FileAnswer) → readFile f ≡ y → (a : Answer) (new table' : List ℕ) → a ≡ answerOn y b area → new ≡ areaOn y b area → table' ≡ tableOn y area table → SearchedWithin f b area table a new table'
   told-on y g a new table' answer lent lent-table =
       record {
         searched = record { answer = answer ∙ sym (ap (λ (z : FileAnswer). answerOn z b area) g); lent = lent ∙ sym (ap (λ (z : FileAnswer). areaOn z b area) g) };
         lent-table = lent-table ∙ sym (ap (λ (z : FileAnswer). tableOn z area table) g);
       }
 
-  pub area-short : r .answer ≡ reading.Good → length area < 480 → (a : Answer) → a ≡ refusal 30 0 → Within f b area table a area table
+  pub area-short : r .answer ≡ reading.Good → length area < 480 → (a : Answer) → a ≡ refusal 30 0 → SearchedWithin f b area table a area table
   area-short h l a q = told-on _ (read-good f r e h) a area table (q ∙ rw (lt-ltb (length area) 480 l)) (rw (lt-ltb (length area) 480 l)) (rw (lt-ltb (length area) 480 l))
 
-  pub area-long : r .answer ≡ reading.Good → 480 ≤ length area → (a : Answer) (new table' : List ℕ) → Answers (r .program) b a area new → table' ≡ cleared table → Within f b area table a new table'
+  pub area-long : r .answer ≡ reading.Good → 480 ≤ length area → (a : Answer) (new table' : List ℕ) → Answers (r .program) b a area new → table' ≡ cleared table → SearchedWithin f b area table a new table'
   area-long h l a new table' q c =
       told-on _ (read-good f r e h) a new table' (q .answer ∙ rw (le-ltb (length area) 480 l)) (q .lent ∙ rw (le-ltb (length area) 480 l)) (c ∙ rw (le-ltb (length area) 480 l))
 
-  pub file-refused : (n place : ℕ) → r .answer ≡ reading.Refused n place → (a : Answer) → a ≡ refusal n place → Within f b area table a area table
+  pub file-refused : (n place : ℕ) → r .answer ≡ reading.Refused n place → (a : Answer) → a ≡ refusal n place → SearchedWithin f b area table a area table
   file-refused n place h a q = told-on _ (read-refused f r e n place h .0) a area table q refl refl

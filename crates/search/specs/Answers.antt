@@ -6,12 +6,12 @@ use mathlib.Core.List.{List, _++_}
 use Prim.Native.Nat.{ℕ, _*_}
 use lib.Dec.{ltb}
 use lib.ListN.{length, drop, replicate}
-use Rattle.source.specs.declared.Program.{Program}
-use Rattle.source.specs.File.{FileAnswer, refused, program, readFile}
+use Rattle.program.specs.declared.Program.{Program}
+use Rattle.program.specs.File.{FileAnswer, refused, program, readFile}
 use Rattle.step.specs.Step.{Step}
 use Rattle.step.specs.Trace.{traceBytes}
-use Rattle.sequences.specs.Answer as sequences
-use Rattle.listing.specs.Listing.{answerTo}
+use Rattle.theory_sequences.specs.Answer as sequences
+use Rattle.search_sequences.specs.OfProgram.{answerTo}
 pub use Rattle.search.specs.declared.Verdict.{Verdict}
 pub use Rattle.search.specs.declared.Verdict.the-variants.{Allowed, Forbidden, NotFinished, Refused}
 pub use Rattle.search.specs.declared.Answer.{Answer}
@@ -61,6 +61,6 @@ tableOn (refused number place) area table = table
 tableOn (program p) area table = cond (ltb (length area) 480) table (cleared table)
 
 -- THE SEARCH WITHIN A TABLE that is lent besides: whatever it is, answer and area are those of the search
-pub record Within (file : List ℕ) (b : ℕ) (area table : List ℕ) (r : Answer) (after tableAfter : List ℕ) : Type 0 where
+pub record SearchedWithin (file : List ℕ) (b : ℕ) (area table : List ℕ) (r : Answer) (after tableAfter : List ℕ) : Type 0 where
   pub searched : Searched file b area r after
   pub lent-table : tableAfter ≡ tableOn (readFile file) area table

@@ -3,15 +3,15 @@ ghost use mathlib.Core.Path.{_≡_};
 ghost use Prim.Native.Nat.{_≤_};
 ghost use lib.Dec.{T};
 ghost use lib.ListN.{length};
-ghost use Rattle.source.specs.WellFormed.{programTest};
-ghost use Rattle.search.specs.Answers.{refusal, Answers, Searched, Within, cleared};
-use arrivals::Ran;
+ghost use Rattle.program.specs.WellFormed.{programTest};
+ghost use Rattle.search.specs.Answers.{refusal, Answers, Searched, SearchedWithin, cleared};
+use file_reader::ReadAnswer;
+use file_reader::read;
 use machine::machines::fresh;
-use program::ReadAnswer;
-use program::read;
-use source::Program;
-use table::clear;
-use visits::visit;
+use program::Program;
+use search_arrivals::Ran;
+use search_table::clear;
+use search_visits::visit;
 
 // A refusal has its number and place.
 pub enum Verdict {
@@ -68,7 +68,7 @@ fn search_program(p: Program, budget: u64, area: &mut [u8], table: &mut [u8]) ->
 // The search with a table that is lent to it, of any length: the same answer, the sooner the longer the table. A refused search
 // leaves the table as it was, any other leaves it all 0.
 pub fn search_within(file: &[u8], budget: u64, area: &mut [u8], table: &mut [u8]) -> Answer
-    ensures { λ r. ⌜ Within (now (file .entry)) budget (now (area .entry)) (now (table .entry)) r (now (area .exit)) (now (table .exit)) ⌝ }
+    ensures { λ r. ⌜ SearchedWithin (now (file .entry)) budget (now (area .entry)) (now (table .entry)) r (now (area .exit)) (now (table .exit)) ⌝ }
 {
     let f = read(file);
     let answer = f.answer;

@@ -7,21 +7,21 @@ use Prim.Native.Nat.{ℕ, _<_}
 use native.Mathlib.Omega.{arith}
 use lib.ListN.{set}
 use borrow.Author.Tests.{lt-ltb}
-use Rattle.source.specs.WellFormed.{programTest}
-use Rattle.source.proofs.Tests.{and-both, is-true}
+use Rattle.program.specs.WellFormed.{programTest}
+use Rattle.program.proofs.Tests.{and-both, is-true}
 use Rattle.machine.specs.WellFormed.{machineTest, Formed}
 use Rattle.step.specs.Below.{Code, Program, Memory, Thread, Machine}
-use Rattle.step.specs.Step.{Step, Outcome, rejected, accepted, ruleStep, step}
-use Rattle.step.specs.Answers.{Taken, Refused, Stepped, stepped, Moved, memoryAfter, Remembers, outcome, Here, Moves}
+use Rattle.step.specs.Step.{Step, Decision, rejected, accepted, ruleStep, step}
+use Rattle.step.specs.Answers.{Taken, Refused, Stepped, stepped, Moved, memoryAfter, Remembers, decision, Here, Moves}
 use Rattle.step.proofs.Stepping.{step-formed, room-taken}
 use Rattle.step.proofs.Kept.{kept}
 
 module _ (x : Machine) (r : Stepped) where
-  stepped-taken : (o : Outcome) → r ≡ stepped x o → r .answer ≡ Taken → o ≡ accepted (r .machine)
+  stepped-taken : (o : Decision) → r ≡ stepped x o → r .answer ≡ Taken → o ≡ accepted (r .machine)
   stepped-taken (rejected n) e h = let q : r .answer ≡ Refused n = ap (λ (y : Stepped). y .answer) e in absurd (let z : _≡_ {A = ℕ} 0 1 = cc in omega arith)
   stepped-taken (accepted y) e h = ap (λ (z : Stepped). accepted (z .machine)) (sym e)
 
-  stepped-refused : (n : ℕ) (o : Outcome) → r ≡ stepped x o → r .answer ≡ Refused n → o ≡ rejected n
+  stepped-refused : (n : ℕ) (o : Decision) → r ≡ stepped x o → r .answer ≡ Refused n → o ≡ rejected n
   stepped-refused n (rejected k) e h = let q : r .answer ≡ Refused k = ap (λ (y : Stepped). y .answer) e in let z : k ≡ n = cc in ap rejected z
   stepped-refused n (accepted y) e h = let q : r .answer ≡ Taken = ap (λ (z : Stepped). z .answer) e in absurd (let z : _≡_ {A = ℕ} 0 1 = cc in omega arith)
 
@@ -42,7 +42,7 @@ module _ (p : Program) (x : Machine) (o : Formed p x) (k : Step) (r : Stepped) (
 
 -- the step of one thread, in a machine that has it
 module _ (p : Program) (x : Machine) (o : Formed p x) (k : Step) (h : k .thread < p .threads) {c : Code} {m : Memory} {s : Thread} (g : Here c m s p x (k .thread)) (r : Moved) (e : Moves c m s k r) where
-  by-thread : step p x k ≡ outcome x (k .thread) (memoryAfter m k (k .kind)) r
+  by-thread : step p x k ≡ decision x (k .thread) (memoryAfter m k (k .kind)) r
   unfolding ruleStep
   by-thread = by-rule p x o k ∙ rw (lt-ltb (k .thread) (p .threads) h) (e p x g)
 

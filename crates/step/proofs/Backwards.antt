@@ -7,16 +7,16 @@ use Prim.Native.Nat.{ℕ, zero, suc, _<_}
 use native.Mathlib.Omega.{arith}
 use lib.Dec.{T, eqb, leb, ltb, eqb→eq, leb→le, ltb→lt}
 use lib.ListN.{set}
-use Rattle.source.specs.Program.{instrAt, codeOf}
-use Rattle.source.specs.WellFormed.{programTest}
-use Rattle.source.proofs.Tests.{and-left, and-right}
+use Rattle.program.specs.Program.{instrAt, codeOf}
+use Rattle.program.specs.WellFormed.{programTest}
+use Rattle.program.proofs.Tests.{and-left, and-right}
 use Rattle.machine.specs.State.{threadOf, append}
 use Rattle.machine.specs.Rules.{Executed, refused, next, execute, addPromise}
 use Rattle.machine.specs.WellFormed.{machineTest}
 use Rattle.machine.proofs.Effects.{Effect, effect}
 use Rattle.certify.specs.Certify.{certified}
 use Rattle.step.specs.Below.{Program, Instr, Memory, Thread, Machine}
-use Rattle.step.specs.Step.{Step, Outcome, rejected, accepted, check, settle, settleRule, executeInstr, executeStep, promiseStep, kindStep, ruleStep, step}
+use Rattle.step.specs.Step.{Step, Decision, rejected, accepted, check, settle, settleRule, executeInstr, executeStep, promiseStep, kindStep, ruleStep, step}
 
 -- the machine with thread i at s, on memory m
 abbrev pub moved : Machine → ℕ → Memory → Thread → Machine
@@ -39,7 +39,7 @@ pub data Did (p : Program) (x : Machine) : Step → Machine → Type 0 where
       → T (certified (codeOf p i) i (promisedMemory x i l v) (promisedThread x i l v))
       → Did p x (record { kind = 1; thread = i; a = l; b = v }) (moved x i (promisedMemory x i l v) (promisedThread x i l v))
 
-pub check-passed : (b : Bool) (n : ℕ) (o : Outcome) (x : Machine) → check b n o ≡ accepted x → T b × (o ≡ accepted x)
+pub check-passed : (b : Bool) (n : ℕ) (o : Decision) (x : Machine) → check b n o ≡ accepted x → T b × (o ≡ accepted x)
 check-passed true n o x e = (tt, e)
 check-passed false n o x e = absurd (let z : _≡_ {A = ℕ} 0 1 = cc in omega arith)
 

@@ -6,12 +6,12 @@ use Prim.Native.Nat.{ℕ, zero, suc, _+_, _-_, _≤_, _<_}
 use native.Mathlib.Omega.{arith}
 use lib.ListN.{length}
 use lib.Seq.{getD-set-same, getD-set-other}
-use Rattle.views.proofs.Entries.{replicate-all}
-use Rattle.source.specs.Tests.{sumBelow}
-use Rattle.source.specs.Program.{instrAt, codeOf}
-use Rattle.source.specs.Counts.{storesFrom, stores, instructions, size}
-use Rattle.source.proofs.Counts.{sum-same, sum-change, there, stores-past, stores-fall}
-use Rattle.source.proofs.Formed.{ProgramOk, program-ok}
+use Rattle.theory_views.proofs.Entries.{replicate-all}
+use Rattle.program.specs.Tests.{sumBelow}
+use Rattle.program.specs.Program.{instrAt, codeOf}
+use Rattle.program.specs.Counts.{storesFrom, stores, instructions, size}
+use Rattle.program.proofs.Counts.{sum-same, sum-change, there, stores-past, stores-fall}
+use Rattle.program.proofs.Formed.{ProgramOk, program-ok}
 use Rattle.machine.specs.State.{freshThread, fresh, threadOf}
 use Rattle.machine.proofs.Sets.{ones-none, ones-with}
 use Rattle.machine.proofs.Effects.{Effect, moves}

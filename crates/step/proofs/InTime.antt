@@ -10,13 +10,13 @@ use native.Mathlib.Omega.{arith}
 use lib.Dec.{T, eqb, leb, ltb, eqb→eq, ltb→lt}
 use lib.ListN.{length}
 use borrow.Author.Tests.{ltb-false}
-use Rattle.views.specs.Views.{viewAt, raiseAt}
-use Rattle.views.proofs.Merging.{raise-reaches}
-use Rattle.source.specs.declared.Operand.the-variants.{Constant, OfRegister}
-use Rattle.source.specs.Program.{instrAt, codeOf}
-use Rattle.source.specs.WellFormed.{programTest}
-use Rattle.source.proofs.Tests.{and-left, and-right}
-use Rattle.source.proofs.Formed.{ProgramOk, program-ok}
+use Rattle.theory_views.specs.Views.{viewAt, raiseAt}
+use Rattle.theory_views.proofs.Merging.{raise-reaches}
+use Rattle.program.specs.declared.Operand.the-variants.{Constant, OfRegister}
+use Rattle.program.specs.Program.{instrAt, codeOf}
+use Rattle.program.specs.WellFormed.{programTest}
+use Rattle.program.proofs.Tests.{and-left, and-right}
+use Rattle.program.proofs.Formed.{ProgramOk, program-ok}
 use Rattle.machine.specs.State.{freshThread, fresh, threadOf, messageAt, append, has}
 use Rattle.machine.specs.Rules.{Executed, refused, next, test, valueOf, viewOf, storePre, address, readable, noneNewer, promised, loadAt, storeAt, execute, addPromise}
 use Rattle.machine.specs.WellFormed.{machineTest}

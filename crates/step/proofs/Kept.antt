@@ -2,8 +2,8 @@
 -- Assumes nothing.
 use mathlib.Core.Path.{_≡_}
 use lib.Dec.{T}
-use Rattle.source.specs.WellFormed.{programTest}
-use Rattle.source.proofs.Formed.{ProgramOk, program-ok}
+use Rattle.program.specs.WellFormed.{programTest}
+use Rattle.program.proofs.Formed.{ProgramOk, program-ok}
 use Rattle.machine.specs.State.{fresh}
 use Rattle.machine.specs.WellFormed.{machineTest}
 use Rattle.machine.proofs.Formed.{MachineOk, machine-iff}

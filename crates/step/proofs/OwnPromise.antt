@@ -8,13 +8,13 @@ use Prim.Native.Nat.{ℕ, max, _≤_, _<_}
 use native.Mathlib.Omega.{arith}
 use lib.Dec.{T, eqb, ltb, eqb→eq, lt→ltb}
 use lib.ListN.{length, getD}
-use Rattle.views.specs.Views.{viewAt, raiseAt}
-use Rattle.views.proofs.Entries.{set-all, replicate-all}
-use Rattle.views.proofs.Merging.{raise-reaches}
-use Rattle.source.specs.Program.{instrAt, codeOf}
-use Rattle.source.specs.WellFormed.{programTest}
-use Rattle.source.proofs.Tests.{and-both}
-use Rattle.source.proofs.Formed.{program-ok}
+use Rattle.theory_views.specs.Views.{viewAt, raiseAt}
+use Rattle.theory_views.proofs.Entries.{set-all, replicate-all}
+use Rattle.theory_views.proofs.Merging.{raise-reaches}
+use Rattle.program.specs.Program.{instrAt, codeOf}
+use Rattle.program.specs.WellFormed.{programTest}
+use Rattle.program.proofs.Tests.{and-both}
+use Rattle.program.proofs.Formed.{program-ok}
 use Rattle.machine.specs.State.{freshForward, freshThread, threadOf, has}
 use Rattle.machine.specs.Rules.{Executed, next, test, viewOf₂, readable, noneNewer, readView, loadDone, loadAt, execute}
 use Rattle.machine.specs.WellFormed.{machineTest}
@@ -24,7 +24,7 @@ use Rattle.machine.proofs.Formed.{MachineOk, machine-iff}
 use Rattle.certify.specs.Certify.{certified}
 use Rattle.certify.proofs.Dead.{Dead, dead-run}
 use Rattle.step.specs.Below.{Program, Operand, LoadMode, Instr, Load, Memory, Forward, Thread, Machine}
-use Rattle.step.specs.Step.{Step, Outcome, rejected, accepted, check, settle, settleRule, executeInstr, executeStep, kindStep, ruleStep, step}
+use Rattle.step.specs.Step.{Step, Decision, rejected, accepted, check, settle, settleRule, executeInstr, executeStep, kindStep, ruleStep, step}
 use Rattle.step.specs.Order.{execution}
 use Rattle.step.specs.Reached.{Reached, start, on}
 use Rattle.step.proofs.Backwards.{moved, promisedThread, Did, executed, promised, did}
@@ -73,11 +73,11 @@ at-least t u v n = go (eqb t u) refl
     go true e = absurd (n (sym (eqb→eq t u (subst T (sym e) tt))))
     go false e = omega arith
 
-pub check-no : (b : Bool) (n : ℕ) (o : Outcome) → (T b → ⊥) → check b n o ≡ rejected n
+pub check-no : (b : Bool) (n : ℕ) (o : Decision) → (T b → ⊥) → check b n o ≡ rejected n
 check-no true n o h = absurd (h tt)
 check-no false n o h = refl
 
-pub check-yes : (b : Bool) (n : ℕ) (o : Outcome) → T b → check b n o ≡ o
+pub check-yes : (b : Bool) (n : ℕ) (o : Decision) → T b → check b n o ≡ o
 check-yes true n o h = refl
 check-yes false n o h = absurd h
 

@@ -7,13 +7,13 @@ use Prim.Native.Nat.{ℕ, suc, _+_, _≤_, _<_}
 use native.Mathlib.Decide.{ℕ-discrete}
 use native.Mathlib.Omega.{arith}
 use lib.Dec.{T, eqb, leb, ltb, ltb→lt, not-T, nltb→le}
-use Rattle.source.specs.Tests.{sumBelow}
-use Rattle.source.specs.Program.{instrAt, codeOf}
-use Rattle.source.specs.Counts.{storesFrom, stores}
-use Rattle.source.specs.WellFormed.{programTest}
-use Rattle.source.proofs.Tests.{and-left}
-use Rattle.source.proofs.Counts.{sum-same, sum-one}
-use Rattle.source.proofs.Formed.{ProgramOk, program-ok}
+use Rattle.program.specs.Tests.{sumBelow}
+use Rattle.program.specs.Program.{instrAt, codeOf}
+use Rattle.program.specs.Counts.{storesFrom, stores}
+use Rattle.program.specs.WellFormed.{programTest}
+use Rattle.program.proofs.Tests.{and-left}
+use Rattle.program.proofs.Counts.{sum-same, sum-one}
+use Rattle.program.proofs.Formed.{ProgramOk, program-ok}
 use Rattle.machine.specs.State.{freshThread, fresh, threadOf}
 use Rattle.machine.specs.WellFormed.{machineTest}
 use Rattle.machine.proofs.Sets.{ones-none}
@@ -24,7 +24,7 @@ use Rattle.certify.specs.Runs.{Run, Unlimited}
 use Rattle.certify.proofs.Iff.{certified-iff}
 use Rattle.certify.proofs.Fit.{outstanding, fits, promises-fit, unlimited-is-certifying}
 use Rattle.step.specs.Below.{Code, Program, Instr, Memory, Thread, Machine}
-use Rattle.step.specs.Step.{Step, Outcome, rejected, check, settle, promiseStep, kindStep, ruleStep, step}
+use Rattle.step.specs.Step.{Step, Decision, rejected, check, settle, promiseStep, kindStep, ruleStep, step}
 use Rattle.step.specs.Order.{promise}
 use Rattle.step.specs.Reached.{Reached, start, on}
 use Rattle.step.proofs.Backwards.{moved, promisedMemory, promisedThread, Did, executed, promised, did}
@@ -133,7 +133,7 @@ module _ (p : Program) {x : Machine} (r : Reached p x) (few : stores p ≤ 16) (
       (omega arith, certified-iff (codeOf p i) i (promisedMemory x i l v) (promisedThread x i l v) .1 (unlimited-is-certifying (omega arith) u))
 
 -- ---- refusal 24
-pub refused-later : (b : Bool) (n m : ℕ) (o : Outcome) → check b n o ≡ rejected m → (n ≡ m → ⊥) → T b × (o ≡ rejected m)
+pub refused-later : (b : Bool) (n m : ℕ) (o : Decision) → check b n o ≡ rejected m → (n ≡ m → ⊥) → T b × (o ≡ rejected m)
 refused-later true n m o e d = (tt, e)
 refused-later false n m o e d = absurd (d (cc))
 
@@ -141,7 +141,7 @@ pub not-settled : (p : Program) (x : Machine) (i : ℕ) (m : Memory) (s : Thread
 unfolding settle
 not-settled p x i m s n d e = let q = refused-later (certified (codeOf p i) i m s) 29 n _ e d .1 in let z : _≡_ {A = ℕ} 0 1 = cc in omega arith
 
-full : (b : Bool) (o : Outcome) → check b 24 o ≡ rejected 24 → (o ≡ rejected 24 → ⊥) → T b → ⊥
+full : (b : Bool) (o : Decision) → check b 24 o ≡ rejected 24 → (o ≡ rejected 24 → ⊥) → T b → ⊥
 full true o e n t = n e
 full false o e n t = t
 

@@ -9,9 +9,9 @@ use native.Mathlib.Omega.{arith}
 use lib.Dec.{T, eqb, leb, ltb, eqb→eq, ltb→lt}
 use lib.ListN.{set}
 use borrow.Author.Tests.{lt-ltb, le-ltb, le-leb, lt-leb, eq-eqb, ne-eqb}
-use Rattle.source.specs.Program.{instrAt, codeOf}
-use Rattle.source.specs.WellFormed.{programTest}
-use Rattle.source.proofs.Tests.{is-true}
+use Rattle.program.specs.Program.{instrAt, codeOf}
+use Rattle.program.specs.WellFormed.{programTest}
+use Rattle.program.proofs.Tests.{is-true}
 use Rattle.machine.specs.State.{threadOf, append, with, withPromises}
 use Rattle.machine.specs.Rules.{execute, addPromise}
 use Rattle.machine.specs.WellFormed.{machineTest, Formed}
@@ -28,7 +28,7 @@ use Rattle.certify.proofs.Asked.{ready-here}
 use Rattle.certify.proofs.Trying.{ready-after}
 use Rattle.step.specs.Below.{Code, Program, Instr, Message, Memory, Thread, Machine}
 use Rattle.step.specs.Step.{Step, rejected, accepted, settle, settleRule, executeInstr, executeStep, promiseStep, kindStep, ruleStep, step}
-use Rattle.step.specs.Answers.{Taken, Refused, Stepped, stepped, Moved, promisedBy, memoryAfter, Remembers, placed, outcome, Here, Settles, Executes, Promises, PromisesKept, Moves}
+use Rattle.step.specs.Answers.{Taken, Refused, Stepped, stepped, Moved, promisedBy, memoryAfter, Remembers, placed, decision, Here, Settles, Executes, Promises, PromisesKept, Moves}
 use Rattle.step.proofs.Backwards.{check-passed}
 
 -- the answer with which nothing moves
@@ -127,7 +127,7 @@ module _ (c : Code) (m : Memory) (s : Thread) (k : Step) (a : Moved) where
   pub kind-execute : k .kind ≡ 0 → k .b ≡ 0 → Executes c (k .thread) m s (k .a) a → Moves c m s k a
   unfolding kindStep
   kind-execute e n q p x h =
-      subst (λ (j : ℕ). kindStep p x k j ≡ outcome x (k .thread) (memoryAfter m k j) a) (sym e) (rw (eq-eqb (k .b) 0 n) (q p x h))
+      subst (λ (j : ℕ). kindStep p x k j ≡ decision x (k .thread) (memoryAfter m k j) a) (sym e) (rw (eq-eqb (k .b) 0 n) (q p x h))
 
   pub kind-22 : (k .kind ≡ 0 → ⊥) → (k .kind ≡ 1 → ⊥) → a ≡ stays 22 s → Moves c m s k a
   unfolding kindStep
@@ -140,7 +140,7 @@ module _ (c : Code) (m : Memory) (s : Thread) (k : Step) (a : Moved) where
   pub kind-promise : k .kind ≡ 1 → k .b < 256 → Promises c (k .thread) m s (k .a) (k .b) a → Moves c m s k a
   unfolding kindStep
   kind-promise e n q p x h =
-      subst (λ (j : ℕ). kindStep p x k j ≡ outcome x (k .thread) (memoryAfter m k j) a) (sym e) (rw (le-leb (k .b) 255 (omega arith)) (q p x h))
+      subst (λ (j : ℕ). kindStep p x k j ≡ decision x (k .thread) (memoryAfter m k j) a) (sym e) (rw (le-leb (k .b) 255 (omega arith)) (q p x h))
 
 -- ---- the memory after a step
 module _ (m : Memory) (k : Step) where
@@ -167,7 +167,7 @@ has-room p x k (suc n) z y e =
     let b = check-passed (leb (k .a) 15) 23 _ y (a .1) in
     inr (ltb→lt (x .memory .count) 16 (check-passed (ltb (x .memory .count) 16) 24 _ y (b .1) .0))
 
-pub room-taken : (p : Program) (x : Machine) (k : Step) (m : Memory) (r : Moved) → kindStep p x k (k .kind) ≡ outcome x (k .thread) m r → r .answer ≡ Taken → (k .kind ≡ 0) ⊎ (x .memory .count < 16)
+pub room-taken : (p : Program) (x : Machine) (k : Step) (m : Memory) (r : Moved) → kindStep p x k (k .kind) ≡ decision x (k .thread) m r → r .answer ≡ Taken → (k .kind ≡ 0) ⊎ (x .memory .count < 16)
 room-taken p x k m r e t = has-room p x k (k .kind) refl _ (e ∙ ap (placed x (k .thread) m (r .thread)) t)
 
 -- ---- any step
@@ -180,7 +180,7 @@ module _ (p : Program) (x : Machine) (k : Step) where
     here : Here c (x .memory) s p x (k .thread)
     here = record { code = sym d; memory = refl; thread = sym e }
 
-    by-thread : ruleStep p x k ≡ outcome x (k .thread) (memoryAfter (x .memory) k (k .kind)) r
+    by-thread : ruleStep p x k ≡ decision x (k .thread) (memoryAfter (x .memory) k (k .kind)) r
     unfolding ruleStep
     by-thread = rw (lt-ltb (k .thread) (p .threads) h) (q p x here)
 

@@ -4,8 +4,8 @@ use mathlib.Core.Bool.{Bool, cond, _&&_}
 use Prim.Native.Nat.{ℕ, zero, suc}
 use lib.Dec.{eqb}
 use lib.ListN.{getD}
-use Rattle.source.specs.Tests.{below}
-use Rattle.source.specs.Program.{noCondition, codeOf}
+use Rattle.program.specs.Tests.{below}
+use Rattle.program.specs.Program.{noCondition, codeOf}
 use Rattle.machine.specs.State.{freshRegister, threadOf, messageAt}
 use Rattle.step.specs.Below.{Condition, Program, Memory, Machine}
 

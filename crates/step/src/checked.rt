@@ -8,7 +8,7 @@ use crate::refused;
 use crate::rule_step;
 use machine::Machine;
 use machine_form::both_formed;
-use source::Program;
+use program::Program;
 
 pub fn step(p: Program, x: Machine, k: TraceStep) -> Stepped
     ensures { λ r. ⌜ r ≡ stepped x (step p x k) ⌝ }

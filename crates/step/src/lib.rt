@@ -5,7 +5,7 @@ pub use checked::step;
 ghost use mathlib.Core.Path.{_≡_};
 ghost use mathlib.Core.Option.{some};
 ghost use Prim.Native.Nat.{_+_, _^_, _<_};
-ghost use Rattle.source.specs.Program.{instrAt};
+ghost use Rattle.program.specs.Program.{instrAt};
 ghost use Rattle.machine.specs.State.{with, withPromises};
 ghost use Rattle.machine.specs.WellFormed.{Formed};
 ghost use Rattle.certify.specs.Answers.{Ready};
@@ -19,10 +19,10 @@ use machine::RuleAnswer;
 use machine::Thread;
 use machine::promises::is_empty;
 use machine::promises::with;
+use program::Code;
+use program::Instr;
+use program::Program;
 use rules::execute;
-use source::Code;
-use source::Instr;
-use source::Program;
 
 // As a trace has it: kind 0 executes at time a, b = 0; kind 1 promises location a, value b.
 pub struct TraceStep {

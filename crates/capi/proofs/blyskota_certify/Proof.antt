@@ -2,8 +2,8 @@
 -- Assumes nothing.
 use native.Mathlib.Omega.{arith}
 use borrow.Author.Needs.{needs}
-use Rattle.certify.specs.Answers.{certification}
-use Rattle.answers_value.specs.Value.{certifiedBytes}
+use Rattle.certify.specs.Answers.{certify}
+use Rattle.encode_answers.specs.Value.{certifiedBytes}
 use Rattle.capi.proofs.Called.{short, other-program, other-machine, answer-of-values}
 use Rattle.capi.specs.Calls.{certifyCall}
 use Rattle.capi.proofs.blyskota_certify.Statement.{statement}
@@ -28,7 +28,7 @@ returns-4 c =
     let m = w .before .before in
     let p = m .before in
     let t = p .before .before in
-    answer-of-values 2 certifiedBytes _ _ _ (t .before .before .if1 .left) (w .put-certified .ensures) certification _ _ _ _ _ (t .before .if2 .left) (t .if3 .left) (p .program-of .ensures) (m .machine-of .ensures) (w .before .certify .ensures)
+    answer-of-values 2 certifiedBytes _ _ _ (t .before .before .if1 .left) (w .put-certified .ensures) certify _ _ _ _ _ (t .before .if2 .left) (t .if3 .left) (p .program-of .ensures) (m .machine-of .ensures) (w .before .certify .ensures)
 
 pub blyskota-certify-spec : {M : Type 1} → statement M
 blyskota-certify-spec = tie.close (tie.spec returns returns-2 returns-3 (λ c κs. search needs) (λ c κs. search needs) (λ c κs. search needs) (λ c κs. search needs) (λ c. search needs) returns-4)

@@ -2,7 +2,7 @@
 -- Assumes nothing.
 use native.Mathlib.Omega.{arith}
 use borrow.Author.Needs.{needs}
-use Rattle.answers_value.specs.Value.{readBytes}
+use Rattle.encode_answers.specs.Value.{readBytes}
 use Rattle.capi.proofs.Called.{short, answer-of-file}
 use Rattle.capi.specs.Calls.{readCall}
 use Rattle.capi.proofs.blyskota_read.Statement.{statement}

@@ -2,7 +2,7 @@
 -- Assumes nothing.
 use native.Mathlib.Omega.{arith}
 use borrow.Author.Needs.{needs}
-use Rattle.answers_value.specs.Value.{replayedBytes}
+use Rattle.encode_answers.specs.Value.{replayedBytes}
 use Rattle.capi.proofs.Called.{short, answer-of-file}
 use Rattle.capi.specs.Calls.{replayCall}
 use Rattle.capi.proofs.blyskota_replay.Statement.{statement}

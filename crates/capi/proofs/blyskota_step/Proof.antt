@@ -4,7 +4,7 @@ use native.Mathlib.Omega.{arith}
 use borrow.Author.Needs.{needs}
 use Rattle.step.specs.Step.{step}
 use Rattle.step.specs.Answers.{stepped}
-use Rattle.answers_value.specs.Value.{steppedBytes}
+use Rattle.encode_answers.specs.Value.{steppedBytes}
 use Rattle.capi.proofs.Called.{short, other-program, other-machine, answer-of-values}
 use Rattle.capi.specs.Calls.{stepCall}
 use Rattle.capi.proofs.blyskota_step.Statement.{statement}

@@ -4,8 +4,8 @@ use mathlib.Core.Path.{refl}
 use Prim.Native.Nat.{_-_}
 use native.Mathlib.Omega.{arith}
 use lib.Dec.{leb}
-use Rattle.views.specs.Views.{viewAt}
-use Rattle.source.proofs.Loops.{Passed, passed-none, passed-more, passed-all}
+use Rattle.theory_views.specs.Views.{viewAt}
+use Rattle.program.proofs.Loops.{Passed, passed-none, passed-more, passed-all}
 use Rattle.machine_form.proofs.coherence_test.Statement.{statement}
 use Rattle.machine_form.proofs.coherence_test.Tie as tie
 

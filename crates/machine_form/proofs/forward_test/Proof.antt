@@ -6,7 +6,7 @@ use Prim.Native.Nat.{_-_}
 use native.Mathlib.Omega.{arith}
 use lib.Dec.{leb}
 use lib.ListN.{getD}
-use Rattle.source.proofs.Loops.{Passed, passed-none, passed-more, passed-all}
+use Rattle.program.proofs.Loops.{Passed, passed-none, passed-more, passed-all}
 use Rattle.machine.specs.State.{freshForward}
 use Rattle.machine_form.proofs.forward_test.Statement.{statement}
 use Rattle.machine_form.proofs.forward_test.Tie as tie

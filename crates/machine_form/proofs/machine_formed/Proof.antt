@@ -4,9 +4,9 @@ use mathlib.Core.Path.{_≡_, sym, _∙_}
 use mathlib.Core.Bool.{true}
 use lib.ListN.{length}
 use borrow.Author.Needs.{needs}
-use Rattle.source.specs.Tests.{allOf}
-use Rattle.source.proofs.Arrays.{length-mapped}
-use Rattle.source.proofs.Loops.{full}
+use Rattle.program.specs.Tests.{allOf}
+use Rattle.program.proofs.Arrays.{length-mapped}
+use Rattle.program.proofs.Loops.{full}
 use Rattle.machine.specs.WellFormed.{machineTest}
 use Rattle.machine_form.proofs.Loops.{memory-room}
 use Rattle.machine_form.proofs.machine_formed.Statement.{statement}

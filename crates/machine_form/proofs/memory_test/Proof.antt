@@ -7,8 +7,8 @@ use native.Mathlib.Omega.{arith}
 use lib.Dec.{ltb}
 use lib.ListN.{length}
 use borrow.Author.Needs.{needs}
-use Rattle.source.proofs.Arrays.{length-mapped}
-use Rattle.source.proofs.Loops.{Passed, passed-none, passed-more, passed-all, full}
+use Rattle.program.proofs.Arrays.{length-mapped}
+use Rattle.program.proofs.Loops.{Passed, passed-none, passed-more, passed-all, full}
 use Rattle.machine.specs.State.{messageAt}
 use Rattle.machine.specs.WellFormed.{messageTest, unusedMessage, memoryTest}
 use Rattle.machine.proofs.Formed.{message-place}

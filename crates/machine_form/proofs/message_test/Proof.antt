@@ -1,7 +1,7 @@
 -- `machine_form::message_test` meets its contract: its two parts.
 -- Assumes nothing.
 use mathlib.Core.Bool.{and-true}
-use Rattle.source.specs.Tests.{allOf}
+use Rattle.program.specs.Tests.{allOf}
 use Rattle.machine.specs.WellFormed.{messageTest}
 use Rattle.machine_form.proofs.message_test.Statement.{statement}
 use Rattle.machine_form.proofs.message_test.Tie as tie

@@ -2,7 +2,7 @@
 -- Assumes nothing.
 use Prim.Native.Nat.{suc, _-_}
 use native.Mathlib.Omega.{arith}
-use Rattle.source.proofs.Loops.{Passed, passed-none, passed-more, passed-all}
+use Rattle.program.proofs.Loops.{Passed, passed-none, passed-more, passed-all}
 use Rattle.machine.specs.WellFormed.{ownTest}
 use Rattle.machine.proofs.Formed.{message-place}
 use Rattle.machine_form.proofs.own_test.Statement.{statement}

@@ -5,7 +5,7 @@ use Prim.Native.Nat.{_-_}
 use native.Mathlib.Omega.{arith}
 use lib.Dec.{leb}
 use lib.ListN.{getD}
-use Rattle.source.proofs.Loops.{Passed, passed-none, passed-more, passed-all}
+use Rattle.program.proofs.Loops.{Passed, passed-none, passed-more, passed-all}
 use Rattle.machine.specs.State.{freshRegister}
 use Rattle.machine_form.proofs.registers_test.Statement.{statement}
 use Rattle.machine_form.proofs.registers_test.Tie as tie

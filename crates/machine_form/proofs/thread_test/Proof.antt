@@ -5,8 +5,8 @@ use mathlib.Core.Bool.{and-assoc, and-true}
 use lib.ListN.{length}
 use borrow.Author.Needs.{needs}
 use borrow.Author.Tests.{eq-eqb}
-use Rattle.source.specs.Tests.{allOf}
-use Rattle.source.proofs.Arrays.{length-mapped}
+use Rattle.program.specs.Tests.{allOf}
+use Rattle.program.proofs.Arrays.{length-mapped}
 use Rattle.machine.specs.WellFormed.{threadTest}
 use Rattle.machine_form.proofs.thread_test.Statement.{statement}
 use Rattle.machine_form.proofs.thread_test.Tie as tie

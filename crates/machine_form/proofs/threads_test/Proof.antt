@@ -4,8 +4,8 @@ use mathlib.Core.Bool.{cond}
 use Prim.Native.Nat.{_-_}
 use native.Mathlib.Omega.{arith}
 use lib.Dec.{ltb}
-use Rattle.source.specs.Program.{codeOf}
-use Rattle.source.proofs.Loops.{Passed, passed-none, passed-more, passed-all}
+use Rattle.program.specs.Program.{codeOf}
+use Rattle.program.proofs.Loops.{Passed, passed-none, passed-more, passed-all}
 use Rattle.machine.specs.State.{threadOf}
 use Rattle.machine.specs.WellFormed.{threadTest, unusedThread}
 use Rattle.machine_form.proofs.threads_test.Statement.{statement}

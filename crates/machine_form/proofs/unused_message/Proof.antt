@@ -1,7 +1,7 @@
 -- `machine_form::unused_message` meets its contract: its three bytes.
 -- Assumes nothing.
 use mathlib.Core.Bool.{and-assoc, and-true}
-use Rattle.source.specs.Tests.{allOf}
+use Rattle.program.specs.Tests.{allOf}
 use Rattle.machine.specs.WellFormed.{unusedMessage}
 use Rattle.machine_form.proofs.unused_message.Statement.{statement}
 use Rattle.machine_form.proofs.unused_message.Tie as tie

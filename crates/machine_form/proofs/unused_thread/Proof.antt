@@ -5,8 +5,8 @@ use mathlib.Core.Bool.{and-assoc, and-true}
 use lib.ListN.{length}
 use borrow.Author.Needs.{needs}
 use borrow.Author.Tests.{eq-eqb}
-use Rattle.source.specs.Tests.{allOf}
-use Rattle.source.proofs.Arrays.{length-mapped}
+use Rattle.program.specs.Tests.{allOf}
+use Rattle.program.proofs.Arrays.{length-mapped}
 use Rattle.machine.specs.WellFormed.{unusedThread}
 use Rattle.machine_form.proofs.Loops.{coherence-zero, forward-zero}
 use Rattle.machine_form.proofs.unused_thread.Statement.{statement}

@@ -1,7 +1,7 @@
 -- `machine_form::views_test` meets its contract: its six views.
 -- Assumes nothing.
 use mathlib.Core.Bool.{and-assoc, and-true}
-use Rattle.source.specs.Tests.{allOf}
+use Rattle.program.specs.Tests.{allOf}
 use Rattle.machine.specs.WellFormed.{viewsTest}
 use Rattle.machine_form.proofs.views_test.Statement.{statement}
 use Rattle.machine_form.proofs.views_test.Tie as tie

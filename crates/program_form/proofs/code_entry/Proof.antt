@@ -1,7 +1,7 @@
 -- `program_form::code_entry` meets its contract: the code, then its count.
 -- Assumes nothing.
 use borrow.Author.Needs.{needs}
-use Rattle.source.proofs.Loops.{or-cond}
+use Rattle.program.proofs.Loops.{or-cond}
 use Rattle.program_form.proofs.code_entry.Statement.{statement}
 use Rattle.program_form.proofs.code_entry.Tie as tie
 

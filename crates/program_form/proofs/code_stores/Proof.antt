@@ -3,7 +3,7 @@
 use Prim.Native.Nat.{_-_}
 use native.Mathlib.Omega.{arith}
 use borrow.Author.Needs.{needs}
-use Rattle.source.proofs.Loops.{Counted, counted-none, counted-more, counted-all}
+use Rattle.program.proofs.Loops.{Counted, counted-none, counted-more, counted-all}
 use Rattle.program_form.proofs.code_stores.Statement.{statement}
 use Rattle.program_form.proofs.code_stores.Tie as tie
 

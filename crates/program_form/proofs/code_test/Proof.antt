@@ -7,10 +7,10 @@ use native.Mathlib.Omega.{arith}
 use lib.Dec.{ltb}
 use lib.ListN.{length}
 use borrow.Author.Needs.{needs}
-use Rattle.source.specs.Program.{instructionAt}
-use Rattle.source.specs.WellFormed.{codeTest, instructionTest, unusedInstruction}
-use Rattle.source.proofs.Arrays.{length-mapped}
-use Rattle.source.proofs.Loops.{full, Passed, passed-none, passed-more, passed-all}
+use Rattle.program.specs.Program.{instructionAt}
+use Rattle.program.specs.WellFormed.{codeTest, instructionTest, unusedInstruction}
+use Rattle.program.proofs.Arrays.{length-mapped}
+use Rattle.program.proofs.Loops.{full, Passed, passed-none, passed-more, passed-all}
 use Rattle.program_form.proofs.code_test.Statement.{statement}
 use Rattle.program_form.proofs.code_test.Tie as tie
 

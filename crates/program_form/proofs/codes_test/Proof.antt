@@ -5,9 +5,9 @@ use Prim.Native.Nat.{_-_}
 use native.Mathlib.Omega.{arith}
 use lib.Dec.{eqb, ltb}
 use borrow.Author.Needs.{needs}
-use Rattle.source.specs.Program.{codeOf}
-use Rattle.source.specs.WellFormed.{codeTest}
-use Rattle.source.proofs.Loops.{Passed, passed-none, passed-more, passed-all}
+use Rattle.program.specs.Program.{codeOf}
+use Rattle.program.specs.WellFormed.{codeTest}
+use Rattle.program.proofs.Loops.{Passed, passed-none, passed-more, passed-all}
 use Rattle.program_form.proofs.codes_test.Statement.{statement}
 use Rattle.program_form.proofs.codes_test.Tie as tie
 

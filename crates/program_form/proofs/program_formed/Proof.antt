@@ -5,9 +5,9 @@ use mathlib.Core.Bool.{and-assoc, and-true, and-false}
 use lib.ListN.{length}
 use borrow.Author.Needs.{needs}
 use borrow.Author.Tests.{le-leb, lt-leb, eq-eqb}
-use Rattle.source.specs.Tests.{allOf}
-use Rattle.source.specs.WellFormed.{programTest}
-use Rattle.source.proofs.Arrays.{length-mapped}
+use Rattle.program.specs.Tests.{allOf}
+use Rattle.program.specs.WellFormed.{programTest}
+use Rattle.program.proofs.Arrays.{length-mapped}
 use Rattle.program_form.proofs.program_formed.Statement.{statement}
 use Rattle.program_form.proofs.program_formed.Tie as tie
 

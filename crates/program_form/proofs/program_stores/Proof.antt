@@ -3,9 +3,9 @@
 use Prim.Native.Nat.{_<_, _-_}
 use native.Mathlib.Omega.{arith}
 use borrow.Author.Needs.{needs}
-use Rattle.source.specs.Program.{codeOf}
-use Rattle.source.specs.Counts.{storesFrom, stores}
-use Rattle.source.proofs.Loops.{Added, added-none, added-more, added-all}
+use Rattle.program.specs.Program.{codeOf}
+use Rattle.program.specs.Counts.{storesFrom, stores}
+use Rattle.program.proofs.Loops.{Added, added-none, added-more, added-all}
 use Rattle.program_form.proofs.program_stores.Statement.{statement}
 use Rattle.program_form.proofs.program_stores.Tie as tie
 

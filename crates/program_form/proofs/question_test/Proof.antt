@@ -6,9 +6,9 @@ use native.Mathlib.Omega.{arith}
 use lib.Dec.{ltb}
 use lib.ListN.{getD}
 use borrow.Author.Needs.{needs}
-use Rattle.source.specs.Program.{noCondition}
-use Rattle.source.specs.WellFormed.{conditionTest, unusedCondition}
-use Rattle.source.proofs.Loops.{Passed, passed-none, passed-more, passed-all}
+use Rattle.program.specs.Program.{noCondition}
+use Rattle.program.specs.WellFormed.{conditionTest, unusedCondition}
+use Rattle.program.proofs.Loops.{Passed, passed-none, passed-more, passed-all}
 use Rattle.program_form.proofs.question_test.Statement.{statement}
 use Rattle.program_form.proofs.question_test.Tie as tie
 

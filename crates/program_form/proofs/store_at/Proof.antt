@@ -5,9 +5,9 @@ use Prim.Native.Nat.{_≤_}
 use native.Mathlib.Omega.{arith}
 use lib.ListN.{length, List·getD-eq-default}
 use borrow.Author.Needs.{needs}
-use Rattle.source.specs.Program.{noInstruction}
-use Rattle.source.specs.Counts.{oneStore}
-use Rattle.source.proofs.Arrays.{length-mapped}
+use Rattle.program.specs.Program.{noInstruction}
+use Rattle.program.specs.Counts.{oneStore}
+use Rattle.program.proofs.Arrays.{length-mapped}
 use Rattle.program_form.proofs.store_at.Statement.{statement}
 use Rattle.program_form.proofs.store_at.Tie as tie
 

@@ -1,8 +1,8 @@
 -- `program_form::unused_condition` meets its contract: its four bytes.
 -- Assumes nothing.
 use mathlib.Core.Bool.{and-assoc, and-true}
-use Rattle.source.specs.Tests.{allOf}
-use Rattle.source.specs.WellFormed.{unusedCondition}
+use Rattle.program.specs.Tests.{allOf}
+use Rattle.program.specs.WellFormed.{unusedCondition}
 use Rattle.program_form.proofs.unused_condition.Statement.{statement}
 use Rattle.program_form.proofs.unused_condition.Tie as tie
 

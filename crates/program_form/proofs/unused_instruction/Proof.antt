@@ -1,8 +1,8 @@
 -- `program_form::unused_instruction` meets its contract: its seven bytes.
 -- Assumes nothing.
 use mathlib.Core.Bool.{and-assoc, and-true}
-use Rattle.source.specs.Tests.{allOf}
-use Rattle.source.specs.WellFormed.{unusedInstruction}
+use Rattle.program.specs.Tests.{allOf}
+use Rattle.program.specs.WellFormed.{unusedInstruction}
 use Rattle.program_form.proofs.unused_instruction.Statement.{statement}
 use Rattle.program_form.proofs.unused_instruction.Tie as tie
 

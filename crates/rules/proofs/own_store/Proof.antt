@@ -3,7 +3,7 @@
 use mathlib.Core.Path.{_≡_}
 use native.Mathlib.Omega.{arith}
 use lib.ListN.{length}
-use Rattle.source.proofs.Arrays.{length-mapped}
+use Rattle.program.proofs.Arrays.{length-mapped}
 use Rattle.machine.proofs.Cases.{own-store}
 use borrow.Author.Needs.{needs}
 use Rattle.rules.proofs.own_store.Statement.{statement}

@@ -1,7 +1,7 @@
 -- `certify::places::place` meets its contract.
 -- Assumes nothing.
 use borrow.Author.Needs.{needs}
-use Rattle.cares.proofs.Marks.{all-marked}
+use Rattle.certify_cares.proofs.Marks.{all-marked}
 use Rattle.certify.proofs.Placing.{elsewhere}
 use Rattle.certify.proofs.places.place.Statement.{statement}
 use Rattle.certify.proofs.places.place.Tie as tie

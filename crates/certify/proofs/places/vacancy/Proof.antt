@@ -2,7 +2,7 @@
 -- Assumes nothing.
 use borrow.Author.Needs.{needs}
 use borrow.Author.Tests.{not-false}
-use Rattle.cares.proofs.Marks.{all-marked}
+use Rattle.certify_cares.proofs.Marks.{all-marked}
 use Rattle.certify.proofs.Placing.{vacant-out}
 use Rattle.certify.proofs.places.vacancy.Statement.{statement}
 use Rattle.certify.proofs.places.vacancy.Tie as tie

@@ -9,11 +9,11 @@ use lib.Dec.{T, lit<}
 use lib.ListN.{length}
 use borrow.Author.Tests.{not-false}
 use borrow.Author.Needs.{needs}
-use Rattle.source.proofs.Arrays.{length-mapped}
-use Rattle.source.proofs.Counts.{there}
+use Rattle.program.proofs.Arrays.{length-mapped}
+use Rattle.program.proofs.Counts.{there}
 use Rattle.machine.proofs.Cases.{ruled-done}
 use Rattle.machine.proofs.Effects.{effect}
-use Rattle.cares.specs.Cares.{Covers}
+use Rattle.certify_cares.specs.Cares.{Covers}
 use Rattle.certify.specs.Below.{Thread}
 use Rattle.certify.specs.Sought.{Better, same, Meets, Missed, Went}
 use Rattle.certify.specs.Straight.{here}
@@ -55,11 +55,11 @@ use Rattle.certify.proofs.reach.+blind+both_ways+filled+keeps+own_reach
 use Rattle.certify.proofs.reach.try_at.Reads as try-at
 use Rattle.certify.proofs.reach.try_at.Kinds as try-at-kinds
 use Rattle.certify.proofs.reach.+blind+both_ways+filled+keeps+own_reached+search_at+search_runs+try_at.Lts-try_at as try-at-lts
-use Rattle.cares.proofs.Cares.and.Reads as and-reads
-use Rattle.cares.proofs.Cares.forgetting.Reads as forgetting-reads
-use Rattle.cares.proofs.Cares.noting.Reads as noting-reads
-use Rattle.cares.proofs.Cares.of_register.Reads as of-register-reads
-use Rattle.cares.proofs.barring.Reads as barring-reads
+use Rattle.certify_cares.proofs.Cares.and.Reads as and-reads
+use Rattle.certify_cares.proofs.Cares.forgetting.Reads as forgetting-reads
+use Rattle.certify_cares.proofs.Cares.noting.Reads as noting-reads
+use Rattle.certify_cares.proofs.Cares.of_register.Reads as of-register-reads
+use Rattle.certify_cares.proofs.barring.Reads as barring-reads
 use Rattle.certify.proofs.Met.ended.Reads as ended-reads
 use Rattle.certify.proofs.Met.is.Reads as is-reads
 use Rattle.certify.proofs.Met.with.Reads as with-reads
@@ -89,15 +89,15 @@ use Rattle.certify.proofs.straight.halts.Reads as halts-reads
 use Rattle.certify.proofs.straight.straight.Reads as straight-reads
 use Rattle.certify.proofs.window.earliest.Reads as earliest-reads
 use Rattle.certify.proofs.window.following.Reads as following-reads
-use Rattle.live.proofs.loads_ahead.Reads as loads-ahead-reads
-use Rattle.lost.proofs.fruitless.Reads as fruitless-reads
+use Rattle.certify_ahead.proofs.loads_ahead.Reads as loads-ahead-reads
+use Rattle.certify_lost.proofs.fruitless.Reads as fruitless-reads
 use Rattle.machine.proofs.Memory.append.Reads as append-reads
 use Rattle.machine.proofs.promises.has.Reads as has-reads
 use Rattle.rules.proofs.execute.Reads as execute-reads
 use Rattle.rules.proofs.operands.view_of.Reads as view-of-reads
 use Rattle.rules.proofs.own_store.Reads as own-store-reads
-use Rattle.source.proofs.Code.instr_at.Reads as instr-at-reads
-use Rattle.stores.proofs.below_time.Reads as below-time-reads
+use Rattle.program.proofs.Code.instr_at.Reads as instr-at-reads
+use Rattle.rules_stores.proofs.below_time.Reads as below-time-reads
 use Rattle.certify.proofs.reach.+blind+both_ways+filled+keeps+own_reached+search_at+search_runs+try_at.{
   statement,
 }

@@ -4,7 +4,7 @@ use mathlib.Core.Path.{_≡_, refl}
 use Prim.Native.Nat.{_≤_}
 use native.Mathlib.Omega.{arith}
 use lib.ListN.{length}
-use Rattle.source.proofs.Arrays.{length-mapped}
+use Rattle.program.proofs.Arrays.{length-mapped}
 use Rattle.certify.specs.Below.{Code, Thread}
 use Rattle.certify.specs.Straight.{Walked}
 use Rattle.certify.proofs.Walking.{Back, one-compute-back, one-branch-back, one-fence-back, back-start, back-end}

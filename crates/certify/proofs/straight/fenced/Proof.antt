@@ -1,7 +1,7 @@
 -- `certify::straight::fenced` meets its contract: one case for each mode.
 -- Assumes nothing.
 use borrow.Author.Tests.{ne-eqb}
-use Rattle.source.specs.Program.{fenceMode}
+use Rattle.program.specs.Program.{fenceMode}
 use Rattle.certify.proofs.straight.fenced.Statement.{statement}
 use Rattle.certify.proofs.straight.fenced.Tie as tie
 

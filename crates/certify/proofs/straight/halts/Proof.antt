@@ -2,7 +2,7 @@
 -- Assumes nothing.
 use mathlib.Core.Path.{sym, ap}
 use native.Mathlib.Omega.{arith}
-use Rattle.source.specs.Program.{instructionAt}
+use Rattle.program.specs.Program.{instructionAt}
 use borrow.Author.Needs.{needs}
 use Rattle.certify.proofs.Plain.{halts-op}
 use Rattle.certify.proofs.Walking.{goes-op}

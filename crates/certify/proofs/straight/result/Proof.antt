@@ -2,7 +2,7 @@
 -- Assumes nothing.
 use native.Mathlib.Omega.{arith}
 use borrow.Author.Tests.{eq-eqb, ne-eqb}
-use Rattle.source.specs.Program.{computeMode}
+use Rattle.program.specs.Program.{computeMode}
 use Rattle.machine.specs.Rules.{combine}
 use borrow.Author.Needs.{needs}
 use Rattle.certify.proofs.straight.result.Statement.{statement}

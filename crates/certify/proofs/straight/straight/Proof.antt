@@ -4,7 +4,7 @@ use mathlib.Core.Path.{refl}
 use Prim.Native.Nat.{_-_}
 use native.Mathlib.Omega.{arith}
 use borrow.Author.Needs.{needs}
-use Rattle.source.proofs.Arrays.{length-mapped}
+use Rattle.program.proofs.Arrays.{length-mapped}
 use Rattle.certify.proofs.Plain.{halts-end, halts-op}
 use Rattle.certify.proofs.Walking.{op-rest, On, Turn, turn-compute, turn-past, turn-lands, turn-branch, turn-fork, turn-fence, on-start, on-gone}
 use Rattle.certify.proofs.straight.straight.Statement.{statement}

@@ -4,7 +4,7 @@ use mathlib.Core.Path.{_≡_}
 use native.Mathlib.Omega.{arith}
 use lib.ListN.{length}
 use borrow.Author.Needs.{needs}
-use Rattle.source.proofs.Arrays.{length-mapped, getD-any}
+use Rattle.program.proofs.Arrays.{length-mapped, getD-any}
 use Rattle.machine.proofs.Machine.thread_of.Statement.{statement}
 use Rattle.machine.proofs.Machine.thread_of.Tie as tie
 

@@ -3,7 +3,7 @@
 use mathlib.Core.Path.{_≡_, sym}
 use native.Mathlib.Omega.{arith}
 use lib.ListN.{length, List·getD-eq-default}
-use Rattle.source.proofs.Arrays.{length-mapped}
+use Rattle.program.proofs.Arrays.{length-mapped}
 use Rattle.machine.specs.State.{freshRegister}
 use borrow.Author.Needs.{needs}
 use Rattle.machine.proofs.Thread.register_at.Statement.{statement}

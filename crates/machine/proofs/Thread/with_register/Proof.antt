@@ -5,7 +5,7 @@ use Prim.Native.Nat.{_≤_}
 use native.Mathlib.Omega.{arith}
 use lib.ListN.{length}
 use lib.Seq.{set-out}
-use Rattle.source.proofs.Arrays.{length-mapped}
+use Rattle.program.proofs.Arrays.{length-mapped}
 use borrow.Author.Needs.{needs}
 use Rattle.machine.proofs.Thread.with_register.Statement.{statement}
 use Rattle.machine.proofs.Thread.with_register.Tie as tie

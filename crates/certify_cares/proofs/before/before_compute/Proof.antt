@@ -1,0 +1,35 @@
+-- `cares::before::before_compute` meets its contract: the first operand is noted, then the second.
+-- Assumes nothing.
+use Rattle.program.specs.Program.{computeMode}
+use Rattle.certify_cares.proofs.Results.{result-told}
+use borrow.Author.Needs.{needs}
+use Rattle.certify_cares.proofs.before.before_compute.Statement.{statement}
+use Rattle.certify_cares.proofs.before.before_compute.Tie as tie
+
+take-requires : tie.Need-take-requires
+take-requires c κs = search needs
+
+compute-shares-requires : tie.Need-compute-shares-requires
+compute-shares-requires c κs = search needs
+
+note-requires : tie.Need-note-requires
+note-requires c κs = search needs
+
+note-requires-2 : tie.Need-note-requires-2
+note-requires-2 c κs = search needs
+
+returns : tie.Need-returns
+returns c =
+    let e = c .before .before .before .before .before .before .before .before .args .e in
+    let t = c .before .before .before .before .before .take .ensures in (
+      c .note2 .ensures .0,
+      λ s s' told h.
+          let q = c .note2 .ensures .1 s s' h in
+          let p = c .before .before .note .ensures .1 s s' (q .0) in
+          (t .1 .1 s s' (p .0), result-told (told .first-held) (told .second-held) (p .1) (q .1) (computeMode (e .instruction .m)) (t .1 .0) (c .before .before .before .before .compute-shares .ensures)),
+    )
+
+pub before-compute-spec : {M : Type 1} → statement M
+before-compute-spec =
+    tie.close
+    (tie.spec take-requires compute-shares-requires note-requires note-requires-2 returns)

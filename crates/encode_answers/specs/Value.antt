@@ -1,0 +1,49 @@
+-- The bytes of each call's answer.
+-- Assumes nothing.
+use mathlib.Core.Bool.{cond}
+use mathlib.Core.List.{List, [], _∷_, _++_}
+use Prim.Native.Nat.{ℕ}
+use Rattle.program.specs.declared.FileRead.{FileRead}
+use Rattle.certify.specs.declared.Certified.{Certified}
+use Rattle.certify.specs.Answers.{certifyRefusal}
+use Rattle.step.specs.declared.Stepped.{Stepped}
+use Rattle.step.specs.Answers.{stepRefusal}
+use Rattle.trace_replay.specs.declared.Replayed.{Replayed}
+use Rattle.search.specs.declared.Answer.{Answer}
+use Rattle.encode_bytes.specs.Numbers.{word32, word64}
+use Rattle.encode_numbers.specs.Cases.{readRefusal, readPlace, certifiedByte, replayRefusal, replayFile, replayIndex, replayPlace, verdictByte, searchRefusal, searchPlace}
+use Rattle.encode_program.specs.Value.{programBytes}
+use Rattle.encode_machine.specs.Value.{machineBytes}
+
+-- ---- read: refusal (0 none), 3 zero bytes, place u32, the program value; 495 bytes
+unfoldable pub readBytes : FileRead → List ℕ
+readBytes r = (readRefusal (r .answer) ∷ 0 ∷ 0 ∷ 0 ∷ []) ++ (word32 (readPlace (r .answer)) ++ programBytes (r .program))
+
+-- ---- step: refusal (0 accepted), the machine value; 342 bytes
+unfoldable pub steppedBytes : Stepped → List ℕ
+steppedBytes r = (stepRefusal (r .answer) ∷ []) ++ machineBytes (r .machine)
+
+-- ---- certify: refusal, certified (0 or 1); 2 bytes
+abbrev pub certifiedBytes : Certified → List ℕ
+certifiedBytes r = certifyRefusal r ∷ certifiedByte r ∷ []
+
+-- ---- replay: refusal, the file it is in (0 none, 1 program, 2 trace), complete, holds, steps u32, index u32, place u32, the machine value; 357 bytes
+unfoldable pub replayedBytes : Replayed → List ℕ
+replayedBytes r =
+    (replayRefusal (r .answer) ∷ replayFile (r .answer) ∷ cond (r .complete) 1 0 ∷ cond (r .holds) 1 0 ∷ [])
+    ++ (word32 (r .steps)
+    ++ (word32 (replayIndex (r .answer))
+    ++ (word32 (replayPlace (r .answer))
+    ++ machineBytes (r .machine))))
+
+-- ---- search: verdict (0 refused, 1 allowed, 2 forbidden, 3 not finished), refusal, steps, 0, place u32
+unfoldable pub foundBytes : Answer → List ℕ
+foundBytes r = (verdictByte (r .verdict) ∷ searchRefusal (r .verdict) ∷ r .steps ∷ 0 ∷ []) ++ word32 (searchPlace (r .verdict))
+
+-- and count u32; 12 bytes
+unfoldable pub searchedBytes : Answer → List ℕ
+searchedBytes r = foundBytes r ++ word32 (r .count)
+
+-- ---- search within a table: the same with count u64; 16 bytes
+unfoldable pub withinBytes : Answer → List ℕ
+withinBytes r = foundBytes r ++ word64 (r .count)

@@ -1,0 +1,16 @@
+-- `values::u64_at` meets its contract.
+-- Assumes nothing.
+use borrow.Author.Needs.{needs}
+use Rattle.encode_bytes.proofs.Words.{word64-at}
+use Rattle.encode_bytes.proofs.u64_at.Statement.{statement}
+use Rattle.encode_bytes.proofs.u64_at.Tie as tie
+
+returns : tie.Need-returns
+returns c = let a = c .before .before .before .before .before .before .before .before .before .before .before .args in word64-at (a .b .now) (a .at) _ _ (c .before .before .before .before .before .u32-of .ensures) (c .u32-of2 .ensures)
+
+pub u64-at-spec : {M : Type 1} → statement M
+u64-at-spec =
+    tie.close
+    (tie.spec (λ c. search needs) (λ c. search needs) (λ c. search needs) (λ c. search needs) (λ c. search needs) (λ c. search needs) (λ c. search needs) (λ c κs. search needs)
+    (λ c. search needs) (λ c. search needs) (λ c. search needs) (λ c. search needs) (λ c. search needs) (λ c. search needs) (λ c. search needs) (λ c. search needs) (λ c κs. search needs)
+    (λ c. search needs) (λ c. search needs) (λ c. search needs) (λ c. search needs) returns)

@@ -1,0 +1,35 @@
+-- `range::condition_fault` meets its contract.
+-- Assumes nothing.
+use mathlib.Core.Path.{sym, _∙_}
+use borrow.Author.Needs.{needs}
+use borrow.Author.Tests.{le-leb, lt-leb, not-true, not-false}
+use Rattle.program.specs.Answers.{firstFailing}
+use Rattle.file_range.proofs.condition_fault.Statement.{statement}
+use Rattle.file_range.proofs.condition_fault.Tie as tie
+
+returns : tie.Need-returns
+unfolding firstFailing
+returns c = rw (lt-leb _ _ (c .if1 .taken))
+
+thread-ok-requires : tie.Need-thread-ok-requires
+thread-ok-requires c κs = search needs
+
+returns-2 : tie.Need-returns-2
+unfolding firstFailing
+returns-2 c = rw (le-leb _ _ (c .before .before .if1 .left), sym (c .before .thread-ok .ensures) ∙ not-true _ (c .if2 .taken))
+
+index-limit-requires : tie.Need-index-limit-requires
+index-limit-requires c κs = search needs
+
+returns-3 : tie.Need-returns-3
+unfolding firstFailing
+returns-3 c = rw (le-leb _ _ (c .before .before .before .before .before .if1 .left), sym (c .before .before .before .before .thread-ok .ensures) ∙ not-false _ (c .before .before .before .if2 .left), ← c .before .before .index-limit .ensures, lt-leb _ _ (c .if3 .taken))
+
+returns-4 : tie.Need-returns-4
+unfolding firstFailing
+returns-4 c = rw (le-leb _ _ (c .before .before .before .before .before .if1 .left), sym (c .before .before .before .before .thread-ok .ensures) ∙ not-false _ (c .before .before .before .if2 .left), ← c .before .before .index-limit .ensures, le-leb _ _ (c .if3 .left))
+
+pub condition-fault-spec : {M : Type 1} → statement M
+condition-fault-spec =
+    tie.close
+    (tie.spec returns thread-ok-requires returns-2 index-limit-requires returns-3 returns-4)

@@ -1,0 +1,284 @@
+-- What the loops of a visit know, on plain values: the machine that is changed in place, and where the search stands.
+-- Assumes nothing.
+use mathlib.Core.Path.{_≡_, refl, sym, ap, subst, _∙_}
+use mathlib.Core.Bool.{Bool, true, false, cond}
+use mathlib.Core.Option.{some}
+use mathlib.Core.List.{List}
+use Prim.Native.Nat.{ℕ, _+_, _-_, _*_, _≤_, _<_}
+use native.Mathlib.Omega.{arith}
+use lib.Dec.{T, ltb}
+use lib.ListN.{length, getD, set}
+use Rattle.program.specs.declared.Code.{Code}
+use Rattle.program.specs.declared.Program.{Program}
+use Rattle.machine.specs.declared.Memory.{Memory}
+use Rattle.machine.specs.declared.Thread.{Thread}
+use Rattle.machine.specs.declared.Machine.{Machine}
+use Rattle.machine.specs.State.{freshThread, threadOf}
+use Rattle.program.specs.Program.{instrAt, codeOf}
+use Rattle.program.specs.declared.Instr.{Instr}
+use Rattle.program.proofs.Arrays.{getD-any}
+use Rattle.certify.specs.Answers as certified
+use Rattle.certify.proofs.Asked.{program-facts, machine-facts, ready-here}
+use Rattle.certify.proofs.Law.{Sound}
+use Rattle.encode_bytes.specs.Lists.{put}
+use Rattle.theory_sequences.proofs.Scan.{Scan}
+use Rattle.step.specs.Step.{Step, accepted, rejected, step}
+use Rattle.step.specs.declared.StepAnswer.the-variants.{Taken, Refused}
+use Rattle.step.specs.declared.Moved.{Moved}
+use Rattle.step.specs.Order.{execution}
+use Rattle.step.specs.Answers.{Here, Remembers, Moves}
+use Rattle.step.proofs.Answered.{thread-taken, thread-refused}
+use Rattle.step.specs.Trace.{stepBytes}
+use Rattle.step.proofs.Bound.{potential, lowers}
+use Rattle.step.proofs.Kept.{kept}
+use Rattle.search_sequences.proofs.Keys.{keyPromise}
+use Rattle.search_table.specs.Table as table
+use Rattle.search_arrivals.specs.declared.Ran.{Ran}
+use Rattle.search_arrivals.specs.declared.Ran.the-variants.{Going, Found, Out}
+use Rattle.search_arrivals.specs.Visits.{visiting, Reports, Visitable}
+use Rattle.search_tries.specs.Steps.{NextOpen, stepNumbered, Numbered, NextStep}
+use Rattle.search_tries.specs.declared.Attempts.{Attempts}
+use Rattle.search_tries.specs.declared.Ahead.{Ahead}
+use Rattle.search_tries.specs.Worthwhile.{Worth, Foreseen, Keepable}
+use Rattle.search_tries.proofs.Refused.{sound-here}
+use Rattle.search_tries.proofs.Worth.{keepable}
+use Rattle.search_visits.proofs.InPlace.{set-again, set-back}
+use Rattle.search_arrivals.proofs.Turns.{BeforeThread, BeforeStep, begins, all-done, to-next, first-try, thread-done, to-open, refused-on, went-below, out-below, found-below, has-thread, not-asked}
+
+-- y is x but for thread i and the memory
+abbrev Others : Machine → ℕ → Machine → Type 0
+Others x i y = (q : Thread) → set (y .threads) i q ≡ set (x .threads) i q
+
+-- y with the memory m put back
+abbrev pub restored : Memory → Machine → Machine
+restored m y = record { memory = m; threads = y .threads }
+
+-- which thread is open next is told by the threads alone
+open-by-threads : (p : Program) (x z : Machine) (i r : ℕ) → z .threads ≡ x .threads → NextOpen p z i r → NextOpen p x i r
+open-by-threads p x z i r e n =
+    let m : NextOpen p (restored (x .memory) z) i r = record { within = n .within; after = n .after; has-next = n .has-next; ended = n .ended } in
+    subst (λ (y : Machine). NextOpen p y i r) (λ j. record { memory = x .memory; threads = e j }) m
+
+-- before thread i
+pub record AtThread (p : Program) (x : Machine) (d left : ℕ) (old : List ℕ) (m : Memory) (y : Machine) (area : List ℕ) (rest i : ℕ) : Type 0 where
+  pub ready : Visitable p x d old
+  pub memory : m ≡ x .memory
+  pub four-codes : length (p .codes) ≡ 4
+  pub four-threads : length (x .threads) ≡ 4
+  pub put-back : y .threads ≡ x .threads
+  pub same : area ≡ old
+  pub has-next : i < 4 → (threadOf x i) .position < (codeOf p i) .count
+  pub stands : BeforeThread p x (visiting p x left) i rest
+
+-- before step k .next of thread i, which has code c, state s and the next instruction w
+pub record AtStep (p : Program) (x : Machine) (d left : ℕ) (old : List ℕ) (m : Memory) (i : ℕ) (c : Code) (s : Thread) (w : Instr) (t : Attempts) (y : Machine) (area : List ℕ) (rest : ℕ) (k : Ahead) : Type 0 where
+  pub ready : Visitable p x d old
+  pub here : Here c m s p x i
+  pub next-is : instrAt c (s .position) ≡ some w
+  pub others : Others x i y
+  pub worth : Worth c m s t
+  pub in-program : i < p .threads
+  pub ahead : Foreseen c m s k
+  pub same : area ≡ old
+  pub stands : BeforeStep p x (visiting p x left) i (k .next) rest
+
+pub is-numbered : (i k : ℕ) (s : Step) → s ≡ stepNumbered i k → Numbered s
+unfolding stepNumbered
+is-numbered i k s e = subst Numbered (sym e) (go (ltb k 17))
+  where
+    go : (b : Bool) → Numbered (cond b (execution i k) (keyPromise i (k - 17)))
+    go true = (λ h. refl, omega arith)
+    go false = (λ h. absurd (omega arith), omega arith)
+
+step-thread : (i k : ℕ) → (stepNumbered i k) .thread ≡ i
+unfolding stepNumbered
+step-thread i k = go (ltb k 17)
+  where
+    go : (b : Bool) → (cond b (execution i k) (keyPromise i (k - 17))) .thread ≡ i
+    go true = refl
+    go false = refl
+
+module _ {p : Program} {x : Machine} {d left : ℕ} {old : List ℕ} {m : Memory} where
+  pub enters : Visitable p x d old → (left ≡ 0 → ⊥) → (i : ℕ) → NextOpen p x 0 i → (i ≡ 4 → ⊥) → m ≡ x .memory → length (p .codes) ≡ 4 → length (x .threads) ≡ 4
+      → AtThread p x d left old m x old (left - 1) i
+  enters o h i n four z q w =
+      let top = n .within in
+      let l : i < 4 = omega (arith, four) in
+      record {
+        ready = o;
+        memory = z;
+        four-codes = q;
+        four-threads = w;
+        put-back = refl;
+        same = refl;
+        has-next = n .has-next;
+        stands = to-open p x 0 i (left - 1) n (begins p x left (omega (arith, h)) (not-asked p x i (has-thread p x (o .well) i l (n .has-next l)) (n .has-next l)));
+      }
+
+  module _ {y : Machine} {area : List ℕ} {rest i : ℕ} (T : AtThread p x d left old m y area rest i) where
+    pub in-program : i < 4 → i < p .threads
+    in-program h = has-thread p x (T .ready .well) i h (T .has-next h)
+
+    -- y with its memory put back is x
+    is-restored : restored m y ≡ x
+    is-restored j = record { memory = T .memory j; threads = T .put-back j }
+
+    -- what is read from the arrays
+    pub code-at : i < 4 → (e : Code) → getD (p .codes) i e ≡ codeOf p i
+    unfolding codeOf
+    code-at h e = let q = T .four-codes in getD-any _ _ (p .codes) i (omega arith)
+
+    pub thread-at : i < 4 → (e : Thread) → getD (y .threads) i e ≡ threadOf x i
+    thread-at h e = let q = T .four-threads in ap (λ (l : List Thread). getD l i e) (T .put-back) ∙ getD-any _ _ (x .threads) i (omega arith)
+
+    pub thread-ready : i < 4 → (c : Code) (s : Thread) → c ≡ codeOf p i → s ≡ threadOf x i → certified.Ready c m s
+    thread-ready h c s e f = rw (e, f, T .memory) (ready-here p x (T .ready .well) i (in-program h))
+
+    pub next-there : i < 4 → (c : Code) (s : Thread) → c ≡ codeOf p i → s ≡ threadOf x i → (s .position < 16) × (s .position < c .count)
+    next-there h c s e f =
+        let l : s .position < c .count = rw (e, f) (T .has-next h) in
+        let b = thread-ready h c s e f .code-ok .short in
+        (omega arith, l)
+
+    pub first : i < 4 → (c : Code) (s : Thread) → c ≡ codeOf p i → s ≡ threadOf x i → (u : Instr) → instrAt c (s .position) ≡ some u → (t : Attempts) → Worth c m s t → (k : Ahead) → NextStep stepNumbered 4113 c m s 0 (k .next) × Foreseen c m s k
+        → AtStep p (restored m y) d left area m i c s u t y area rest k
+    first h c s e f u is-next t w k nx =
+        let g : Here c m s p x i = record { code = sym e; memory = sym (T .memory); thread = sym f } in
+        subst (λ (z : Machine). AtStep p z d left area m i c s u t y area rest k) (sym is-restored)
+        (record {
+          ready = subst (Visitable p x d) (sym (T .same)) (T .ready);
+          here = g;
+          next-is = is-next;
+          others = λ q. ap (λ (l : List Thread). set l i q) (T .put-back);
+          worth = w;
+          in-program = in-program h;
+          ahead = nx .1;
+          same = refl;
+          stands = first-try p x i (k .next) rest g h (nx .0) (T .stands);
+        })
+
+    pub ends : 4 ≤ i → Reports d (visiting p x left) (Going rest) old area
+    ends h =
+        let few = program-facts p x (T .ready .well) .few-threads in
+        subst (λ (o : Scan Step). Reports d o (Going rest) old area) (sym (all-done p x i rest (omega arith) (T .stands)))
+        (record { answer = refl; lent = T .same })
+
+    -- all steps of the thread are done
+    pub leaves : {c : Code} {s : Thread} {u : Instr} {t : Attempts} {y' : Machine} {area' : List ℕ} {rest' : ℕ} {k : Ahead} → AtStep p (restored m y) d left area m i c s u t y' area' rest' k → 4113 ≤ k .next
+        → (z : Machine) → z .threads ≡ set (y' .threads) i s → (r : ℕ) → NextOpen p z (i + 1) r → AtThread p x d left old m z area' rest' r
+    leaves {c} {s} {u} {t} {y'} {area'} {rest'} {k} done h z e r v =
+        let U = subst (λ (o : Machine). AtStep p o d left area m i c s u t y' area' rest' k) is-restored done in
+        let b : z .threads ≡ x .threads = e ∙ U .others s ∙ ap (set (x .threads) i) (sym (U .here .thread)) ∙ set-back (x .threads) i freshThread in
+        let n = open-by-threads p x z (i + 1) r b v in
+        record {
+          ready = T .ready;
+          memory = T .memory;
+          four-codes = T .four-codes;
+          four-threads = T .four-threads;
+          put-back = b;
+          same = U .same ∙ T .same;
+          has-next = n .has-next;
+          stands = to-open p x (i + 1) r rest' n (thread-done p x i (k .next) rest' h (U .stands));
+        }
+
+    -- an answer within the thread's steps is one of the whole
+    pub answers : {r : Ran} {new : List ℕ} → Reports d (visiting p (restored m y) left) r area new → Reports d (visiting p x left) r old new
+    answers {r} {new} t =
+        subst (λ (a : List ℕ). Reports d (visiting p x left) r a new) (T .same)
+        (subst (λ (z : Machine). Reports d (visiting p z left) r area new) is-restored t)
+
+    -- what is below y with its memory put back is below x
+    pub less-than-whole : (n : ℕ) → n < potential p (restored m y) → n < potential p x
+    less-than-whole n = subst (λ (z : Machine). n < potential p z) is-restored
+
+    -- what is written of y with its memory put back is written of x
+    pub whole-written : (slot n : ℕ) (t : List ℕ) {new : List ℕ} → new ≡ table.kept slot (restored m y) n t → new ≡ table.kept slot x n t
+    whole-written slot n t e = e ∙ ap (λ (z : Machine). table.kept slot z n t) is-restored
+
+  module _ {i : ℕ} {c : Code} {s : Thread} {w : Instr} {t : Attempts} {o : Machine} {area : List ℕ} {rest : ℕ} {k : Ahead} (U : AtStep p x d left old m i c s w t o area rest k) where
+    pub step-ready : certified.Ready c m s
+    step-ready =
+        let h = U .here in
+        subst (λ (n : Code). certified.Ready n m s) (h .code)
+        (subst (λ (n : Memory). certified.Ready (codeOf p i) n s) (h .memory)
+        (subst (λ (n : Thread). certified.Ready (codeOf p i) (x .memory) n) (h .thread) (ready-here p x (U .ready .well) i (U .in-program))))
+
+    pub step-sound : Sound m s
+    step-sound =
+        let h = U .here in
+        subst (λ (n : Memory). Sound n s) (h .memory)
+        (subst (λ (n : Thread). Sound (x .memory) n) (h .thread) (sound-here p x (machine-facts p x (U .ready .well)) i (U .in-program)))
+
+    pub step-kept : k .next < 4113 → (k' : Step) → k' ≡ stepNumbered i (k .next) → Keepable c m s k'
+    step-kept l = keepable c m s i (k .next) l (U .ahead .next-kept)
+
+    -- thread i set once more
+    pub set-others : (q : Thread) (o' : Machine) → o' .threads ≡ set (o .threads) i q → Others x i o'
+    set-others q o' e a = ap (λ (l : List Thread). set l i a) e ∙ set-again (o .threads) i q a ∙ U .others a
+
+    pub same-others : (o' : Machine) → o' ≡ o → Others x i o'
+    same-others o' e a = ap (λ (z : Machine). set (z .threads) i a) e ∙ U .others a
+
+    -- on to the next try, with b left of the budget and t' to try
+    pub on : (t' : Attempts) → Worth c m s t' → (b rest' : ℕ) (k' : Ahead) (mid new : List ℕ) (o' : Machine) → Others x i o' → k .next < 4113 → BeforeStep p x (visiting p x left) i (k .next + 1) b × (mid ≡ area) → new ≡ mid → rest' ≡ b
+        → NextStep stepNumbered 4113 c m s (k .next + 1) (k' .next) × Foreseen c m s k' → AtStep p x d left old m i c s w t' o' new rest' k'
+    on t' worth b rest' k' mid new o' others l v e f nx =
+        record {
+          ready = U .ready;
+          here = U .here;
+          next-is = U .next-is;
+          others = others;
+          worth = worth;
+          in-program = U .in-program;
+          ahead = nx .1;
+          same = e ∙ v .1 ∙ U .same;
+          stands = to-next p x i (k .next + 1) (k' .next) rest' (U .here) (omega arith) (nx .0) (subst (BeforeStep p x (visiting p x left) i (k .next + 1)) (sym f) (v .0));
+        }
+
+    module _ (l : k .next < 4113) (k' : Step) (e : k' ≡ stepNumbered i (k .next)) (r : Moved) (q : Moves c m s k' r) where
+      thread-is : k' .thread ≡ i
+      thread-is = ap (λ (y : Step). y .thread) e ∙ step-thread i (k .next)
+
+      here-too : Here c m s p x (k' .thread)
+      here-too = subst (Here c m s p x) (sym thread-is) (U .here)
+
+      in-program-too : k' .thread < p .threads
+      in-program-too = let h = thread-is in let g = U .in-program in omega arith
+
+      pub is-rejected : (n : ℕ) → r .answer ≡ Refused n → BeforeStep p x (visiting p x left) i (k .next + 1) rest
+      is-rejected n h =
+          refused-on p x i (k .next) rest l (U .stands) n
+          (subst (λ (y : Step). step p x y ≡ rejected n) e (thread-refused p x (U .ready .well) k' in-program-too here-too r q n h))
+
+      module _ (h : r .answer ≡ Taken) (n : Memory) (v : Remembers m k' n) (y : Machine) (z : y ≡ record { memory = n; threads = set (o .threads) i (r .thread) }) where
+        is-accepted : step p x (stepNumbered i (k .next)) ≡ accepted y
+        is-accepted =
+            subst (λ (j : Step). step p x j ≡ accepted y) e
+            (thread-taken p x (U .ready .well) k' in-program-too here-too r q h n v y
+            (z ∙ (λ j. record { memory = n; threads = U .others (r .thread) j }) ∙ ap (λ (j : ℕ). record { memory = n; threads = set (x .threads) j (r .thread) }) (sym thread-is)))
+
+        pub lower : potential p y < potential p x
+        lower = lowers p x y (stepNumbered i (k .next)) is-accepted
+
+        ready-old : Visitable p y (d + 1) old
+        ready-old =
+            let o = U .ready in
+            record {
+              well = record { program-formed = o .well .program-formed; machine-formed = kept p x y (stepNumbered i (k .next)) is-accepted };
+              room = let b = lower in let w = o .room in omega arith;
+            }
+
+        pub ready-below : Visitable p y (d + 1) area
+        ready-below = subst (Visitable p y (d + 1)) (sym (U .same)) ready-old
+
+        module _ (a : Ran) (mid : List ℕ) (below : Reports (d + 1) (visiting p y rest) a area mid) where
+          pub goes-on : (b : ℕ) → a ≡ Going b → BeforeStep p x (visiting p x left) i (k .next + 1) b × (mid ≡ area)
+          goes-on b f = went-below p x i (k .next) rest l (U .stands) y is-accepted (d + 1) b a area mid below f
+
+          pub runs-out : a ≡ Out → Reports d (visiting p x left) Out old mid
+          runs-out f = subst (λ (v : List ℕ). Reports d (visiting p x left) Out v mid) (U .same) (out-below p x i (k .next) rest l (U .stands) y is-accepted d a area mid below f)
+
+          pub finds : (b n : ℕ) → a ≡ Found b n → (new : List ℕ) → new ≡ put (d * 6) (stepBytes k') mid → Reports d (visiting p x left) (Found b n) old new
+          finds b n f new g =
+              subst (λ (v : List ℕ). Reports d (visiting p x left) (Found b n) v new) (U .same)
+              (found-below p x i (k .next) rest l (U .stands) y is-accepted d b n a area mid new ready-below below f k' e g)

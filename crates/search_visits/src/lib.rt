@@ -1,0 +1,117 @@
+// The visits: a state, then each state that an accepted step leads to. The trace is written on the way back.
+ghost use mathlib.Core.Path.{_≡_};
+ghost use Prim.Native.Nat.{_+_, _≤_};
+ghost use lib.ListN.{length};
+ghost use Rattle.step.specs.Trace.{stepBytes};
+ghost use Rattle.search_table.specs.Table.{EverySlot};
+ghost use Rattle.encode_bytes.specs.Lists.{put};
+ghost use Rattle.search_arrivals.specs.Visits.{visiting, Reports, Visitable, Known, Opens};
+use machine::Machine;
+use program::Program;
+use search_arrivals::Arrival;
+use search_arrivals::Ran;
+use search_arrivals::arrive;
+use search_table::SLOT;
+use search_table::keep;
+use search_tries::after_try;
+use search_tries::attempt;
+use search_tries::next_try;
+use search_tries::step_at;
+use search_tries::threads::next_open;
+use search_tries::tries_of;
+use step::StepAnswer;
+use step::TraceStep;
+use step::memory_after;
+
+// The six bytes of step k, at a place.
+fn put_step(area: &mut [u8], at: usize, k: TraceStep)
+    requires { ⌜ at + 6 ≤ length (now area) ⌝ }
+    ensures { λ _. ⌜ now (area .exit) ≡ put at (stepBytes k) (now (area .entry)) ⌝ }
+{
+    area[at] = 0x53;
+    area[at + 1] = 0x54;
+    area[at + 2] = k.kind;
+    area[at + 3] = k.thread;
+    area[at + 4] = k.a;
+    area[at + 5] = k.b;
+}
+
+// Visits x and each state that an accepted step leads to: threads ascending, from the first that is not at its end; within one,
+// executions by time, then promises by location, then value. A refused step costs nothing. y is x but for the memory and for the
+// thread whose turn it is: one copy of the machine is changed in place and put back, since a second one would cost as much as a
+// step, and take stack. Where all of it goes on, y is x again, and is written into the table.
+fn walk(
+    p: Program,
+    x: Machine,
+    first: u8,
+    slot: usize,
+    depth: usize,
+    left: u64,
+    area: &mut [u8],
+    table: &mut [u8],
+) -> Ran
+    requires { ⌜ Visitable p x depth (now area) × Opens p x left (now table) first slot × EverySlot (Known p) (now table) ⌝ }
+    ensures { λ r. ⌜ Reports depth (visiting p x left) r (now (area .entry)) (now (area .exit)) × EverySlot (Known p) (now (table .exit)) ⌝ }
+{
+    let m = x.memory;
+    let mut y = x;
+    let mut rest = left - 1;
+    let mut i = first;
+    while i < 4 {
+        let c = p.codes[i as usize];
+        let s = y.threads[i as usize];
+        let w = c.instr_at(s.position);
+        let mut t = tries_of(w, c, m, s);
+        let mut k = next_try(t, c, m, s, 0);
+        while k.next < 4113 {
+            let step = step_at(i, k.next);
+            let r = attempt(t, w, c, m, s, step);
+            t = r.left;
+            let answer = r.answer;
+            if let StepAnswer::Taken = answer {
+                y.memory = memory_after(m, step);
+                let q = r.thread;
+                y.threads[i as usize] = q;
+                let ran = match arrive(p, y, depth + 1, rest, table) {
+                    Arrival::Over(o) => o,
+                    Arrival::Open(f, l) => walk(p, y, f, l, depth + 1, rest, area, table),
+                };
+                match ran {
+                    Ran::Going(b) => rest = b,
+                    Ran::Found(b, n) => {
+                        put_step(area, depth * 6, step);
+                        return Ran::Found(b, n);
+                    }
+                    Ran::Out => return Ran::Out,
+                }
+            }
+            k = after_try(t, c, m, s, k);
+        }
+        y.threads[i as usize] = s;
+        i = next_open(p, y, i + 1);
+    }
+    if table.len() < SLOT {
+        return Ran::Going(rest);
+    }
+    y.memory = m;
+    keep(table, slot, y, left - rest);
+    Ran::Going(rest)
+}
+
+// The search from x, to which `depth` steps have led. A table without a slot is asked nothing: every machine is visited.
+pub fn visit(
+    p: Program,
+    x: Machine,
+    depth: usize,
+    left: u64,
+    area: &mut [u8],
+    table: &mut [u8],
+) -> Ran
+    requires { ⌜ Visitable p x depth (now area) × EverySlot (Known p) (now table) ⌝ }
+    ensures { λ r. ⌜ Reports depth (visiting p x left) r (now (area .entry)) (now (area .exit)) × EverySlot (Known p) (now (table .exit)) ⌝ }
+{
+    match arrive(p, x, depth, left, table) {
+        Arrival::Over(ran) => ran,
+        Arrival::Open(first, slot) => walk(p, x, first, slot, depth, left, area, table),
+    }
+}
