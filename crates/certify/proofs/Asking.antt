@@ -9,7 +9,7 @@ use native.Mathlib.Nat.{add-comm, mod-lt}
 use native.Mathlib.Decide.{ℕ-discrete, decLt}
 use native.Mathlib.Omega.{arith}
 use lib.Dec.{T, eqb, lit<}
-use borrow.Author.Tests.{eqb-true, not-false}
+use borrow.Author.Tests.{eqb-true, not-false, eqb-false}
 use Rattle.program.proofs.Tests.{and-both, eq→eqb, is-false}
 use Rattle.machine.specs.State.{messageAt, has}
 use Rattle.machine.specs.Rules.{valueOf, address}
@@ -134,7 +134,7 @@ store-same k k' a a' d d' e = (cc, cc)
 
 -- a load is no store
 pub load-not-store : (k : LoadMode) (k' : StoreMode) (r : ℕ) (a a' b d' : Operand) → Load k r a b ≡ Store k' a' d' → ⊥
-load-not-store k k' r a a' b d' e = let z : _≡_ {A = ℕ} 0 1 = cc in omega arith
+load-not-store k k' r a a' b d' e = eqb-false 0 1 refl cc
 
 module _ (x : Instr) (m : Memory) (s : Thread) (q : Sought) (apart : Bool) (cares : List ℕ) where
   -- the instruction is a load

@@ -6,7 +6,7 @@ use mathlib.Core.Bool.{Bool, true}
 use mathlib.Core.List.{List}
 use mathlib.Core.Option.{none, some}
 use Prim.Native.Nat.{ℕ}
-use native.Mathlib.Omega.{arith}
+use borrow.Author.Tests.{eqb-false}
 use Rattle.machine.specs.Rules.{refused, next, valueOf, address, execute}
 use Rattle.machine.proofs.Effects.{loadLocation}
 use Rattle.certify_cares.specs.Cares.{Covers}
@@ -37,10 +37,10 @@ found-none from p P s k fails = record { better = same; barren = fails }
 
 -- ---- an instruction that another thread executes
 pub other : {n : ℕ} {s : Thread} → refused n ≡ next s → ⊥
-other {n} {s} e = let z : _≡_ {A = ℕ} 0 1 = cc in omega arith
+other {n} {s} e = eqb-false 0 1 refl cc
 
 pub no-thread-left : {s : Thread} → some s ≡ none → ⊥
-no-thread-left {s} e = let z : _≡_ {A = ℕ} 0 1 = cc in omega arith
+no-thread-left {s} e = eqb-false 0 1 refl cc
 
 -- a thread in which is so what the tries of a store rest on stores the same, if it executes
 pub stores-same : {m : Memory} {s s' : Thread} {q : Sought} (how : StoreMode) (a d : Operand) → Under s s' → StoresSame m s a d s' ⊎ Elsewhere m (s .promises) q (address (valueOf s' a)) → (t : ℕ) (y' : Thread) → execute (Store how a d) m t s' ≡ next y' → StoresSame m s a d s'

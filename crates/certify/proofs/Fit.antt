@@ -6,8 +6,10 @@ use Prim.Native.Nat.{ℕ, suc, _+_, _≤_, _<_}
 use native.Mathlib.Omega.{arith}
 use lib.Count.{ones}
 use lib.Dec.{T}
+use borrow.Author.Tests.{eqb-false}
 use Rattle.program.specs.Counts.{storesFrom}
-use Rattle.program.proofs.Counts.{storesOf, stores-past, stores-fall}
+use Rattle.program.proofs.Counts.{stores-past, stores-fall}
+use Rattle.program.specs.Inner.{storesOf}
 use Rattle.machine.specs.State.{append}
 use Rattle.machine.specs.Rules.{valueOf, viewOf, storeDone, addPromise}
 use Rattle.machine.proofs.Sets.{with-without, ones-none, ones-without}
@@ -36,7 +38,7 @@ pub data Owned (i : ℕ) (m : Memory) (w : Message) (s : Thread) : Instr → Thr
       → Owned i m w s (Store k a d) (storeDone k (m .count + 1) (storeLocation (addPromise (append m w) s) a) (viewOf (addPromise (append m w) s) a) (viewOf (addPromise (append m w) s) d) (addPromise (append m w) s))
 
 pub no-message : {w : Message} → none ≡ some w → ⊥
-no-message {w} e = let z : _≡_ {A = ℕ} 0 1 = cc in omega arith
+no-message {w} e = eqb-false 0 1 refl cc
 
 -- an instruction that has a message of its own, read backwards
 pub own-effect : (i : ℕ) (m : Memory) (w : Message) (s : Thread) {x : Instr} {s' : Thread} → messageOf i s x ≡ some w

@@ -10,7 +10,7 @@ use native.Mathlib.Omega.{arith}
 use lib.Dec.{eqb}
 use Rattle.program.specs.Program.{instrAt}
 use Rattle.program.proofs.Counts.{there}
-use Rattle.program.proofs.Formed.{CodeOk}
+use Rattle.program.specs.Inner.{CodeOk}
 use Rattle.machine.specs.Rules.{valueOf, branchBy, branchDone}
 use Rattle.machine.proofs.Effects.{branch-moves}
 use Rattle.certify_cares.specs.Cares.{Covers}

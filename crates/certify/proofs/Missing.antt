@@ -16,7 +16,7 @@ use lib.Seq.{getD-set-same, getD-set-other}
 use Rattle.program.specs.Program.{instrAt}
 use Rattle.program.specs.Counts.{storesFrom}
 use Rattle.machine.specs.Rules.{next, readValue, readView, execute}
-use Rattle.machine.specs.Answers.{ruled}
+use Rattle.machine.specs.Inner.{ruled}
 use Rattle.machine.specs.declared.RuleAnswer.the-variants.{Refused}
 use Rattle.machine.specs.declared.Ruled.{Ruled}
 use Rattle.machine.proofs.Cases.{ruled-refused}

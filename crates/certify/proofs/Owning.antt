@@ -15,7 +15,7 @@ use Rattle.program.specs.Counts.{storesFrom}
 use Rattle.program.proofs.Counts.{stores-fall}
 use Rattle.machine.specs.State.{append, has}
 use Rattle.machine.specs.Rules.{next, valueOf, address, execute, addPromise}
-use Rattle.machine.specs.Answers.{ruled, storeMessage, ownStore}
+use Rattle.machine.specs.Inner.{ruled, storeMessage, ownStore}
 use Rattle.machine.specs.declared.RuleAnswer.the-variants.{Done, Refused}
 use Rattle.machine.specs.declared.Ruled.{Ruled}
 use Rattle.machine.proofs.Cases.{ruled-done, ruled-refused}

@@ -9,6 +9,7 @@ use Prim.Native.Nat.{ℕ, _≤_, _<_}
 use native.Mathlib.Nat.{le-refl}
 use native.Mathlib.Omega.{arith}
 use lib.Dec.{T, eqb, eqb→eq}
+use borrow.Author.Tests.{eqb-false}
 use Rattle.program.specs.declared.Instruction.{Instruction}
 use Rattle.program.specs.Program.{operand, computeMode, loadMode, storeMode, fenceMode, decode, instructionAt, instrAt}
 use Rattle.program.proofs.Counts.{there}
@@ -26,7 +27,7 @@ use Rattle.certify.proofs.Executes.{executes}
 use Rattle.certify.proofs.Trying.{ready-after}
 
 pub no-thread : {s : Thread} → none ≡ some s → ⊥
-no-thread {s} e = let z : _≡_ {A = ℕ} 0 1 = cc in omega arith
+no-thread {s} e = eqb-false 0 1 refl cc
 
 -- ---- one plain instruction
 -- it executes at time 0, whatever the memory
@@ -59,11 +60,11 @@ plain-promises (Fence k) s s' e = ap (λ (y : Thread). y .promises) (sym (Option
 -- it has no message of its own
 plain-silent : (x : Instr) (s s' : Thread) → plainly x s ≡ some s' → (i : ℕ) (w : Message) → messageOf i s x ≡ some w → ⊥
 unfolding plainly
-plain-silent (Compute k r a b) s s' p i w e = let z : _≡_ {A = ℕ} 0 1 = cc in omega arith
+plain-silent (Compute k r a b) s s' p i w e = eqb-false 0 1 refl cc
 plain-silent (Load k r a b) s s' p i w e = no-thread p
 plain-silent (Store k a d) s s' p i w e = no-thread p
-plain-silent (Branch n a b) s s' p i w e = let z : _≡_ {A = ℕ} 0 1 = cc in omega arith
-plain-silent (Fence k) s s' p i w e = let z : _≡_ {A = ℕ} 0 1 = cc in omega arith
+plain-silent (Branch n a b) s s' p i w e = eqb-false 0 1 refl cc
+plain-silent (Fence k) s s' p i w e = eqb-false 0 1 refl cc
 
 module _ (c : Code) (m : Memory) (y y' : Thread) (x : Instr) (g : instrAt c (y .position) ≡ some x) (p : plainly x y ≡ some y') where
   plain-back : (i h k : ℕ) → Meets c i m y h k → Meets c i m y' h k

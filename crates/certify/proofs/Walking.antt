@@ -11,11 +11,11 @@ use native.Mathlib.Omega.{arith}
 use lib.Dec.{eqb}
 use lib.ListN.{length, length-set, getD, set, List·getD-eq-default}
 use lib.Seq.{set-out, getD-set-same, getD-set-other}
-use borrow.Author.Tests.{lt-ltb, eq-eqb, ne-eqb}
+use borrow.Author.Tests.{lt-ltb, eq-eqb, ne-eqb, eqb-false}
 use Rattle.program.specs.declared.Instruction.{Instruction}
 use Rattle.program.specs.Program.{operand, computeMode, fenceMode, decode, instructionAt, instrAt}
 use Rattle.program.proofs.Counts.{there}
-use Rattle.program.proofs.Formed.{CodeOk}
+use Rattle.program.specs.Inner.{CodeOk}
 use Rattle.machine.specs.State.{freshRegister, raiseCap}
 use Rattle.machine.specs.Rules.{valueOf, viewOf, combine, computeDone, branchBy, branchDone, fenceViews, fenceDone}
 use Rattle.certify_cares.specs.Cares.{Agrees, careOf, Agreeing, AgreeingBut, firstOf, secondOf, noStep, Tells}
@@ -69,9 +69,9 @@ module _ (i : Instruction) where
   op-rest h a d = op-fence a (λ e. go (eqb (i .op) 1) (eqb (i .op) 2) (inl (eq-eqb (i .op) 1 e)) h) (λ e. go (eqb (i .op) 1) (eqb (i .op) 2) (inr (eq-eqb (i .op) 2 e)) h) d
     where
       go : (p q : Bool) → (p ≡ true) ⊎ (q ≡ true) → (p || q) ≡ false → ⊥
-      go p q (inl e) h = let z : _≡_ {A = ℕ} 0 1 = cc in omega arith
-      go true q (inr e) h = let z : _≡_ {A = ℕ} 0 1 = cc in omega arith
-      go false q (inr e) h = let z : _≡_ {A = ℕ} 0 1 = cc in omega arith
+      go p q (inl e) h = eqb-false 0 1 refl cc
+      go true q (inr e) h = eqb-false 0 1 refl cc
+      go false q (inr e) h = eqb-false 0 1 refl cc
 
 module _ (c : Code) (n : ℕ) (l : n < c .count) where
   instr-is : instrAt c n ≡ some (decode (instructionAt c n))

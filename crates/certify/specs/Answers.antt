@@ -7,7 +7,7 @@ use Prim.Native.Nat.{ℕ, _^_, _≤_, _<_}
 use lib.Dec.{T, ltb}
 use Rattle.program.specs.Program.{instrAt, codeOf}
 use Rattle.program.specs.WellFormed.{programTest}
-use Rattle.program.proofs.Formed.{CodeOk}
+use Rattle.program.specs.Inner.{CodeOk}
 use Rattle.machine.specs.State.{threadOf, messageAt, has}
 use Rattle.machine.specs.Rules.{next, execute}
 use Rattle.machine.specs.WellFormed.{machineTest}

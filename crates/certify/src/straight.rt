@@ -6,7 +6,7 @@ ghost use Prim.Native.Nat.{_+_, _%_, _≤_, _<_};
 ghost use lib.Dec.{eqb};
 ghost use lib.ListN.{length, getD};
 ghost use Rattle.program.specs.Program.{operand, computeMode, fenceMode};
-ghost use Rattle.program.proofs.Formed.{CodeOk};
+ghost use Rattle.program.specs.Inner.{CodeOk};
 ghost use Rattle.machine.specs.State.{freshRegister};
 ghost use Rattle.machine.specs.Rules.{valueOf, viewOf, combine, branchBy, fenceViews};
 ghost use Rattle.certify.specs.Below.{Code, Thread};

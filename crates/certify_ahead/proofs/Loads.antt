@@ -1,13 +1,13 @@
 -- The loads ahead, looked for one by one.
 -- Assumes nothing.
-use mathlib.Core.Path.{_≡_, sym, ap, _∙_}
+use mathlib.Core.Path.{_≡_, sym, ap, _∙_, refl}
 use mathlib.Core.Bool.{Bool, true, false, cond}
 use mathlib.Core.Option.{some}
 use Prim.Native.Nat.{ℕ, _+_, _≤_, _<_}
 use native.Mathlib.Decide.{decLt}
 use native.Mathlib.Omega.{arith}
 use lib.Dec.{eqb}
-use borrow.Author.Tests.{ne-eqb}
+use borrow.Author.Tests.{ne-eqb, eqb-false}
 use Rattle.program.specs.declared.Code.{Code}
 use Rattle.program.specs.declared.Instruction.{Instruction}
 use Rattle.program.specs.declared.Operand.{Operand}
@@ -30,11 +30,11 @@ not-load i n how r a b e = go (eqb (i .op) 0) (eqb (i .op) 1) (eqb (i .op) 2) (e
 
     go : (p o q t : Bool) → o ≡ false
         → cond p (Compute (computeMode (i .m)) (i .r) x y) (cond o (Load (loadMode (i .m)) (i .r) x y) (cond q (Store (storeMode (i .m)) x y) (cond t (Branch (i .m) x y) (Fence (fenceMode (i .m)))))) ≡ Load how r a b → ⊥
-    go true o q t f e = let z : _≡_ {A = ℕ} 0 1 = cc in omega arith
-    go false true q t f e = let z : _≡_ {A = ℕ} 0 1 = cc in omega arith
-    go false false true t f e = let z : _≡_ {A = ℕ} 0 1 = cc in omega arith
-    go false false false true f e = let z : _≡_ {A = ℕ} 0 1 = cc in omega arith
-    go false false false false f e = let z : _≡_ {A = ℕ} 0 1 = cc in omega arith
+    go true o q t f e = eqb-false 0 1 refl cc
+    go false true q t f e = eqb-false 0 1 refl cc
+    go false false true t f e = eqb-false 0 1 refl cc
+    go false false false true f e = eqb-false 0 1 refl cc
+    go false false false false f e = eqb-false 0 1 refl cc
 
 -- no load stands from position n up to k
 abbrev pub NoneUpTo : Code → ℕ → ℕ → Type 0

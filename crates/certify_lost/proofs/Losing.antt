@@ -18,7 +18,8 @@ use Rattle.program.specs.declared.Instr.{Instr}
 use Rattle.program.specs.declared.Instr.the-variants.{Compute, Load, Store, Branch, Fence}
 use Rattle.program.specs.Program.{instrAt}
 use Rattle.program.proofs.Tests.{or-left, or-right, is-false, eq→eqb}
-use Rattle.program.proofs.Counts.{there, storesOf}
+use Rattle.program.proofs.Counts.{there}
+use Rattle.program.specs.Inner.{storesOf}
 use Rattle.machine.specs.declared.Thread.{Thread}
 use Rattle.machine.specs.declared.Views.{Views}
 use Rattle.machine.specs.State.{withPromises}

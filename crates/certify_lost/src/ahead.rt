@@ -4,7 +4,7 @@ ghost use mathlib.Core.Path.{_≡_};
 ghost use mathlib.Core.Bool.{true, false};
 ghost use Prim.Native.Nat.{ℕ, _≤_, _<_};
 ghost use Rattle.certify_cares.specs.Cares.{Marked};
-ghost use Rattle.program.proofs.Counts.{storesOf};
+ghost use Rattle.program.specs.Inner.{storesOf};
 ghost use Rattle.certify_lost.specs.Lost.{Unwritten, Writing, Leaves, Passing, Farther};
 use certify_cares::barred::marked;
 use certify_cares::barred::marking;

@@ -14,7 +14,8 @@ use Rattle.machine.specs.declared.Thread.{Thread}
 use Rattle.machine.specs.declared.Machine.{Machine}
 use Rattle.encode_bytes.specs.Lists.{joined, entries, AllBytes}
 use Rattle.encode_bytes.specs.Numbers.{word16, word16From}
-use Rattle.encode_machine.specs.Value.{messageBytes, memoryBytes, registerBytes, forwardBytes, viewsBytes, threadBytes, machineBytes, messageFrom, memoryFrom, registerFrom, forwardFrom, viewsFrom, threadFrom, machineOf, SizedThread, SizedMachine}
+use Rattle.encode_machine.specs.Value.{messageBytes, memoryBytes, registerBytes, forwardBytes, viewsBytes, threadBytes, machineBytes, messageFrom, memoryFrom, registerFrom, forwardFrom, viewsFrom, threadFrom, machineOf}
+use Rattle.encode_machine.specs.Sized.{SizedThread, SizedMachine}
 use Rattle.encode_machine.proofs.Lengths.{memory-length, registers-length, coherence-length, forward-length, thread-length}
 use Rattle.encode_bytes.proofs.Entries.{run-again, bytes-drop, part-then, part-at, drop-part, entries-back, entries-again}
 

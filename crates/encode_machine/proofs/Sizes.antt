@@ -13,7 +13,8 @@ use Rattle.machine.specs.State.{freshThread}
 use Rattle.machine.specs.WellFormed.{Formed}
 use Rattle.machine.proofs.Formed.{machine-iff}
 use Rattle.encode_bytes.proofs.Entries.{entries-length, entries-each}
-use Rattle.encode_machine.specs.Value.{memoryFrom, threadFrom, machineOf, SizedThread, SizedMachine}
+use Rattle.encode_machine.specs.Value.{memoryFrom, threadFrom, machineOf}
+use Rattle.encode_machine.specs.Sized.{SizedThread, SizedMachine}
 
 -- ---- what is read from bytes
 thread-sized : (b : List ℕ) → SizedThread (threadFrom b)

@@ -1,10 +1,9 @@
 -- A machine as 341 bytes: message count; 16 × (location, value, thread); 4 × (position; 8 × (value, view); 16 × coherence view;
 -- 16 × (forward time, forward view); rOld, wOld, rNew, wNew, CAP, Rel; promises, low byte first, bit t − 1 for time t).
 -- Assumes nothing.
-use mathlib.Core.Path.{_≡_}
 use mathlib.Core.List.{List, [], _∷_, _++_}
-use Prim.Native.Nat.{ℕ, _<_}
-use lib.ListN.{length, getD, drop}
+use Prim.Native.Nat.{ℕ}
+use lib.ListN.{getD, drop}
 use Rattle.theory_views.specs.Views.{viewAt}
 use Rattle.program.specs.File.{byteAt}
 use Rattle.machine.specs.declared.Message.{Message}
@@ -83,14 +82,3 @@ threadFrom b =
 -- THE MACHINE OF A MACHINE VALUE
 unfoldable pub machineOf : List ℕ → Machine
 machineOf b = record { memory = memoryFrom b; threads = entries threadFrom 73 4 (drop 49 b) }
-
--- ---- the lengths of its arrays: every value of the code has them, a list of the definitions need not
-pub record SizedThread (s : Thread) : Type 0 where
-  pub registers : length (s .registers) ≡ 8
-  pub coherence : length (s .coherence) ≡ 16
-  pub forward : length (s .forward) ≡ 16
-
-pub record SizedMachine (x : Machine) : Type 0 where
-  pub messages : length (x .memory .messages) ≡ 16
-  pub threads : length (x .threads) ≡ 4
-  pub each : (i : ℕ) → i < 4 → SizedThread (threadOf x i)

@@ -11,7 +11,8 @@ use Rattle.program.specs.Program.{noCode, codeOf}
 use Rattle.program.specs.WellFormed.{programTest}
 use Rattle.program.proofs.Shape.{program-iff}
 use Rattle.encode_bytes.proofs.Entries.{entries-length, entries-each}
-use Rattle.encode_program.specs.Value.{codeFrom, programOf, SizedProgram}
+use Rattle.encode_program.specs.Value.{codeFrom, programOf}
+use Rattle.encode_program.specs.Sized.{SizedProgram}
 
 -- ---- what is read from bytes
 code-sized : (b : List ℕ) → length ((codeFrom b) .instructions) ≡ 16

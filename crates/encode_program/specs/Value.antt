@@ -1,9 +1,8 @@
 -- A program as 487 bytes: version, threads, 4 × (instruction count, 16 × 7 bytes), condition count, 8 × 4 bytes.
 -- Assumes nothing.
-use mathlib.Core.Path.{_≡_}
 use mathlib.Core.List.{List, [], _∷_, _++_}
-use Prim.Native.Nat.{ℕ, _<_}
-use lib.ListN.{length, getD, drop}
+use Prim.Native.Nat.{ℕ}
+use lib.ListN.{getD, drop}
 use Rattle.program.specs.declared.Instruction.{Instruction}
 use Rattle.program.specs.declared.Code.{Code}
 use Rattle.program.specs.declared.Condition.{Condition}
@@ -53,9 +52,3 @@ programOf b =
       conditions = byteAt b 454;
       question = entries conditionFrom 4 8 (drop 455 b);
     }
-
--- ---- the lengths of its arrays: every value of the code has them, a list of the definitions need not
-pub record SizedProgram (p : Program) : Type 0 where
-  pub codes : length (p .codes) ≡ 4
-  pub instructions : (i : ℕ) → i < 4 → length ((codeOf p i) .instructions) ≡ 16
-  pub question : length (p .question) ≡ 8

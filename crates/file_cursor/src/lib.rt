@@ -4,7 +4,7 @@ ghost use Prim.Native.Nat.{_≤_, _<_};
 ghost use lib.ListN.{length};
 ghost use Rattle.program.specs.Program.{noInstruction, noCode, noProgram};
 ghost use Rattle.program.specs.File.{Reading, stopped, reading, marked};
-ghost use Rattle.program.specs.Answers.{unless};
+ghost use Rattle.program.specs.Inner.{unless};
 ghost use Rattle.file_cursor.specs.Cursors.{cursorOf};
 use program::Code;
 use program::Condition;

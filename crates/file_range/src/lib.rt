@@ -2,7 +2,7 @@
 ghost use mathlib.Core.Path.{_≡_};
 ghost use Prim.Native.Nat.{_<_};
 ghost use Rattle.program.specs.WellFormed.{modeLimit, modeTest, registerTest, kindTest, numberTest, instructionTests, conditionTests};
-ghost use Rattle.program.specs.Answers.{firstFailing, askedThreadTest, indexLimit};
+ghost use Rattle.program.specs.Inner.{firstFailing, askedThreadTest, indexLimit};
 use program::Condition;
 use program::Instruction;
 

@@ -7,16 +7,16 @@ use Prim.Native.Nat.{ℕ, max, _+_, _^_, _≤_, _<_}
 use native.Mathlib.Omega.{arith}
 use lib.Dec.{T}
 use lib.ListN.{length}
-use borrow.Author.Tests.{le-leb, eq-eqb, not-true, not-false}
+use borrow.Author.Tests.{le-leb, eq-eqb, not-true, not-false, eqb-false}
 use Rattle.theory_views.specs.Views.{viewAt}
 use Rattle.program.specs.Program.{instrAt}
 use Rattle.program.proofs.Tests.{and-left, is-true}
 use Rattle.program.proofs.Counts.{there}
-use Rattle.program.proofs.Formed.{CodeOk}
+use Rattle.program.specs.Inner.{CodeOk}
 use Rattle.machine.specs.Below.{Code, Operand, Constant, OfRegister, LoadMode, StoreMode, Instr, Compute, Load, Store, Branch, Fence}
 use Rattle.machine.specs.State.{Message, Memory, Thread, append, has, with, withPromises}
 use Rattle.machine.specs.Rules.{Executed, refused, next, valueOf, viewOf, address, loadPre, readable, noneNewer, readView, loadDone, loadAt, promised, storeDone, storeAt, execute, addPromise}
-use Rattle.machine.specs.Answers.{Ruled, Done, Refused, ruled, reach, belowTime, stored, ownAt, storeMessage, ownStore}
+use Rattle.machine.specs.Inner.{Ruled, Done, Refused, ruled, reach, belowTime, stored, ownAt, storeMessage, ownStore}
 use Rattle.machine.proofs.Sets.{has-with, with-without}
 use Rattle.machine.proofs.Memories.{message-new}
 
@@ -30,12 +30,12 @@ reach-within c o n (Fence k) e = let l = there c n (Fence k) e .0 in omega arith
 
 -- ---- an answer read backwards
 pub ruled-done : (s : Thread) (o : Executed) (r : Ruled) → r ≡ ruled s o → r .answer ≡ Done → o ≡ next (r .thread)
-ruled-done s (refused n) r e h = let q : r .answer ≡ Refused n = ap (λ (x : Ruled). x .answer) e in absurd (let z : _≡_ {A = ℕ} 0 1 = cc in omega arith)
+ruled-done s (refused n) r e h = let q : r .answer ≡ Refused n = ap (λ (x : Ruled). x .answer) e in absurd (eqb-false 0 1 refl cc)
 ruled-done s (next s') r e h = ap (λ (x : Ruled). next (x .thread)) (sym e)
 
 pub ruled-refused : (s : Thread) (o : Executed) (r : Ruled) (n : ℕ) → r ≡ ruled s o → r .answer ≡ Refused n → o ≡ refused n
 ruled-refused s (refused k) r n e h = let q : r .answer ≡ Refused k = ap (λ (x : Ruled). x .answer) e in let z : k ≡ n = cc in ap refused z
-ruled-refused s (next s') r n e h = let q : r .answer ≡ Done = ap (λ (x : Ruled). x .answer) e in absurd (let z : _≡_ {A = ℕ} 0 1 = cc in omega arith)
+ruled-refused s (next s') r n e h = let q : r .answer ≡ Done = ap (λ (x : Ruled). x .answer) e in absurd (eqb-false 0 1 refl cc)
 
 -- ---- what a negated test says of the value that was tested
 pub was-false : {a b : Bool} → a ≡ b → not a ≡ true → b ≡ false

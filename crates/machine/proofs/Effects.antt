@@ -1,11 +1,12 @@
 -- The rules read backwards: what an executed instruction left, and under which tests.
 -- Assumes nothing.
-use mathlib.Core.Path.{_≡_, subst}
+use mathlib.Core.Path.{_≡_, subst, refl}
 use mathlib.Core.Logic.{⊎-elim}
 use mathlib.Core.Bool.{Bool, true, false, _&&_}
 use Prim.Native.Nat.{ℕ, max, _+_, _≤_, _<_}
 use native.Mathlib.Omega.{arith}
 use lib.Dec.{T, eqb, leb, ltb, eqb→eq, leb→le, ltb→lt}
+use borrow.Author.Tests.{eqb-false}
 use Rattle.theory_views.specs.Views.{viewAt}
 use Rattle.program.proofs.Tests.{or-cases, and-left, and-right}
 use Rattle.machine.specs.Below.{Operand, ComputeMode, LoadMode, StoreMode, FenceMode, Instr, Compute, Load, Store, Branch, Fence}
@@ -50,7 +51,7 @@ next-same {s} {s'} e = cc
 
 test-passed : (b : Bool) (n : ℕ) (o : Executed) (s' : Thread) → test b n o ≡ next s' → T b × (o ≡ next s')
 test-passed true n o s' e = (tt, e)
-test-passed false n o s' e = absurd (let z : _≡_ {A = ℕ} 0 1 = cc in omega arith)
+test-passed false n o s' e = absurd (eqb-false 0 1 refl cc)
 
 promised-facts : (m : Memory) (t l v : ℕ) (s : Thread) → T (promised m t l v s) → Promised m t l v s
 unfolding promised

@@ -4,8 +4,8 @@ use mathlib.Core.Path.{_≡_, refl, sym, ap, _∙_}
 use mathlib.Core.Bool.{Bool, true, false}
 use mathlib.Core.List.{List}
 use Prim.Native.Nat.{ℕ, max, _+_}
-use native.Mathlib.Omega.{arith}
 use lib.ListN.{getD}
+use borrow.Author.Tests.{eqb-false}
 use Rattle.theory_views.specs.Views.{viewAt}
 use Rattle.machine.specs.Below.{Operand, Constant, OfRegister, LoadMode, PlainLoad, Acquire, WeakAcquire, Load}
 use Rattle.machine.specs.State.{Memory, Register, Views, Thread, freshRegister, withViews, withPromises}
@@ -35,8 +35,8 @@ on-test f false n o = refl
 -- what passes two tests
 passed : (b c : Bool) (n k : ℕ) (z x : Thread) → test b n (test c k (next z)) ≡ next x → z ≡ x
 passed true true n k z x e = cc
-passed true false n k z x e = absurd (let z : _≡_ {A = ℕ} 0 1 = cc in omega arith)
-passed false c n k z x e = absurd (let z : _≡_ {A = ℕ} 0 1 = cc in omega arith)
+passed true false n k z x e = absurd (eqb-false 0 1 refl cc)
+passed false c n k z x e = absurd (eqb-false 0 1 refl cc)
 
 -- an operand is read from the registers alone
 operand-same : (s u : Thread) → s .registers ≡ u .registers → (a : Operand) → (valueOf s a ≡ valueOf u a) × (viewOf s a ≡ viewOf u a)

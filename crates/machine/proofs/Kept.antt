@@ -15,7 +15,8 @@ use Rattle.theory_views.proofs.Entries.{set-all, replicate-all}
 use Rattle.theory_views.proofs.Merging.{length-raise, raise-below}
 use Rattle.program.specs.Program.{instrAt, codeOf}
 use Rattle.program.proofs.Counts.{there}
-use Rattle.program.proofs.Formed.{CodeOk, ProgramOk}
+use Rattle.program.proofs.Formed.{ProgramOk}
+use Rattle.program.specs.Inner.{CodeOk}
 use Rattle.machine.specs.Below.{Code, Program, Operand, Constant, OfRegister, LoadMode, PlainLoad, Acquire, WeakAcquire, StoreMode, PlainStore, Release, FenceMode, DmbSy, DmbLd, DmbSt, Isb, Instr}
 use Rattle.machine.specs.State.{Message, Memory, Register, Forward, Views, Thread, Machine, noMessage, freshMemory, freshRegister, freshForward, freshThread, fresh, threadOf, messageAt, append, has, with, without, raiseCap, withPosition, withRegister, raiseCoherence, withForward, withViews, withPromises}
 use Rattle.machine.specs.Rules.{valueOf, viewOf, viewOf₂, branchBy, loadPre, readView, loadViews, storeViews, fenceViews, addPromise}

@@ -13,7 +13,7 @@ use lib.Pow.{pow-lt}
 use borrow.Author.Tests.{ne-eqb, lt-ltb}
 use Rattle.program.proofs.Tests.{and-right, is-false}
 use Rattle.machine.specs.State.{has}
-use Rattle.machine.specs.Promises.{First}
+use Rattle.machine.specs.Inner.{First}
 use Rattle.machine.proofs.Sets.{has-positive, has-time, ones-none}
 
 -- ---- shifts

@@ -2,5 +2,4 @@ pub mod Below
 pub mod State
 pub mod Rules
 pub mod WellFormed
-pub mod Promises
-pub mod Answers
+pub mod Inner

@@ -1,7 +1,7 @@
 // The answer of a rule, beside the thread's state.
 ghost use mathlib.Core.Path.{_≡_};
 ghost use Rattle.machine.specs.Rules.{next, refused};
-ghost use Rattle.machine.specs.Answers.{ruled};
+ghost use Rattle.machine.specs.Inner.{ruled};
 use crate::RuleAnswer;
 use crate::Ruled;
 use crate::Thread;

@@ -3,7 +3,7 @@ ghost use mathlib.Core.Path.{_≡_};
 ghost use Prim.Native.Nat.{_-_, _^_, _<_, _≤_};
 ghost use lib.Dec.{T, eqb};
 ghost use Rattle.machine.specs.State.{has, with, without};
-ghost use Rattle.machine.specs.Promises.{First};
+ghost use Rattle.machine.specs.Inner.{First};
 
 pub fn has(p: u16, t: u8) -> bool
     ensures { λ r. ⌜ r ≡ has p t ⌝ }

@@ -8,10 +8,11 @@ use native.Mathlib.Nat.{not-suc-le-zero, le-refl}
 use native.Mathlib.Decide.{ℕ-discrete, decLt}
 use native.Mathlib.Omega.{arith}
 use lib.Dec.{eqb, ltb}
-use borrow.Author.Tests.{ltb-true, ne-eqb}
+use borrow.Author.Tests.{ltb-true, ne-eqb, eqb-false}
 use Rattle.program.specs.Tests.{sumBelow}
 use Rattle.program.specs.Program.{Instruction, Code, Instr, Compute, Load, Store, Branch, Fence, operand, computeMode, loadMode, storeMode, fenceMode, decode, instructionAt, instrAt}
 use Rattle.program.specs.Counts.{oneStore, storesAmong, storesFrom}
+use Rattle.program.specs.Inner.{storesOf}
 
 -- ---- sums
 module _ (f g : ℕ → ℕ) where
@@ -77,16 +78,7 @@ there c n x e = go (ltb n (c .count)) refl e
   where
     go : (b : Bool) → ltb n (c .count) ≡ b → cond b (some (decode (instructionAt c n))) none ≡ some x → (n < c .count) × (decode (instructionAt c n) ≡ x)
     go true q h = (ltb-true n (c .count) q, cc)
-    go false q h = absurd (let z : _≡_ {A = ℕ} 0 1 = cc in omega arith)
-
--- ---- stores
--- 1 for a store, 0 for any other
-abbrev pub storesOf : Instr → ℕ
-storesOf (Compute k r a b) = 0
-storesOf (Load k r a b) = 0
-storesOf (Store k a d) = 1
-storesOf (Branch n a b) = 0
-storesOf (Fence k) = 0
+    go false q h = absurd (eqb-false 0 1 refl cc)
 
 one-store : (i : Instruction) → oneStore i ≡ storesOf (decode i)
 unfolding oneStore decode

@@ -10,6 +10,7 @@ use native.Mathlib.Omega.{arith}
 use lib.Dec.{T, eqb, leb}
 use lib.ListN.{length, getD, set, replicate, length-set}
 use lib.Seq.{getD-set-same, getD-set-other}
+use borrow.Author.Tests.{eqb-false}
 use Rattle.program.specs.Tests.{allOf, sumBelow}
 use Rattle.program.specs.Program.{Instruction, Code, Program, noInstruction, noCode, instructionAt, codeOf}
 use Rattle.program.specs.Counts.{oneStore, storesAmong, storesFrom, stores}
@@ -20,7 +21,7 @@ use Rattle.program.specs.File.{Reading, reading, byteAt, demand, marked,
 module _ (a s : ℕ) (q : Program) where
   pub demand-passed : (b : Bool) (n place : ℕ) (on : Reading) → demand b n place on ≡ reading a s q → T b × (on ≡ reading a s q)
   demand-passed true n place on e = (tt, e)
-  demand-passed false n place on e = absurd (let z : _≡_ {A = ℕ} 0 1 = cc in omega arith)
+  demand-passed false n place on e = absurd (eqb-false 0 1 refl cc)
 
   pub range-passed : (bs : List Bool) (n at : ℕ) (on : Reading) → inRange bs n at on ≡ reading a s q → T (allOf bs) × (on ≡ reading a s q)
   unfolding inRange allOf

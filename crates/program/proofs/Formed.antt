@@ -1,21 +1,17 @@
 -- What a well-formed program gives.
 -- Assumes nothing.
-use mathlib.Core.Path.{_≡_}
+use mathlib.Core.Path.{_≡_, refl}
 use mathlib.Core.Bool.{Bool, true, false, cond}
-use mathlib.Core.Option.{some}
 use Prim.Native.Nat.{ℕ, suc, _+_, _≤_, _<_}
 use native.Mathlib.Omega.{arith}
 use lib.Dec.{T, eqb, leb, ltb, leb→le, lt→ltb}
-use Rattle.program.specs.Program.{Instruction, Code, Program, Operand, Compute, Load, Store, Branch, Fence, operand, computeMode, loadMode, storeMode, fenceMode, decode, instructionAt, instrAt, codeOf}
+use borrow.Author.Tests.{eqb-false}
+use Rattle.program.specs.Program.{Instruction, Code, Program, Operand, Compute, Load, Store, Branch, Fence, operand, computeMode, loadMode, storeMode, fenceMode, decode, instructionAt, codeOf}
 use Rattle.program.specs.Counts.{stores}
 use Rattle.program.specs.WellFormed.{modeLimit, modeTest, instructionTest, unusedInstruction, codeTest, programTest}
+use Rattle.program.specs.Inner.{CodeOk}
 use Rattle.program.proofs.Tests.{and-left, and-right, cond-true, all-at, below-at}
 use Rattle.program.proofs.Counts.{there}
-
--- at most 16 instructions; a branch's target may be the end but not beyond
-pub record CodeOk (c : Code) : Type 0 where
-  pub short : c .count ≤ 16
-  pub lands : (n j : ℕ) (a b : Operand) → instrAt c n ≡ some (Branch j a b) → n + suc j ≤ c .count
 
 -- 1 to 4 threads, at most 16 stores
 pub record ProgramOk (p : Program) : Type 0 where
@@ -38,11 +34,11 @@ branch-test i n k j a b e h =
         (Fence (fenceMode (i .m))))))
         ≡ Branch j a b
         → T (cond b3 (leb (k + suc (i .m)) n) true) → k + suc j ≤ n
-    go true b1 b2 b3 e h = absurd (let z : _≡_ {A = ℕ} 0 1 = cc in omega arith)
-    go false true b2 b3 e h = absurd (let z : _≡_ {A = ℕ} 0 1 = cc in omega arith)
-    go false false true b3 e h = absurd (let z : _≡_ {A = ℕ} 0 1 = cc in omega arith)
+    go true b1 b2 b3 e h = absurd (eqb-false 0 1 refl cc)
+    go false true b2 b3 e h = absurd (eqb-false 0 1 refl cc)
+    go false false true b3 e h = absurd (eqb-false 0 1 refl cc)
     go false false false true e h = let q : i .m ≡ j = cc in let g = leb→le (k + suc (i .m)) n h in omega arith
-    go false false false false e h = absurd (let z : _≡_ {A = ℕ} 0 1 = cc in omega arith)
+    go false false false false e h = absurd (eqb-false 0 1 refl cc)
 
 code-ok : (c : Code) → T (codeTest c) → CodeOk c
 unfolding codeTest instructionTest

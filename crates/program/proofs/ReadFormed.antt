@@ -10,6 +10,7 @@ use native.Mathlib.Omega.{arith}
 use lib.Dec.{T, eqb, leb, eqb→eq, leb→le}
 use lib.ListN.{length, getD, set, replicate, length-set}
 use lib.Seq.{getD-set-same, getD-set-other}
+use borrow.Author.Tests.{eqb-false}
 use Rattle.program.specs.Tests.{sumBelow}
 use Rattle.program.specs.Program.{Code, Condition, Program, noCode, noCondition, noProgram, codeOf}
 use Rattle.program.specs.Counts.{stores}
@@ -71,8 +72,8 @@ module _ (N : ℕ) (f : List ℕ) where
 
   conditions-stopped : (n k x y a t : ℕ) (r : Program) → readConditions f n k (stopped x y) ≡ reading a t r → ⊥
   unfolding readConditions
-  conditions-stopped zero k x y a t r e = let z : _≡_ {A = ℕ} 0 1 = cc in omega arith
-  conditions-stopped (suc n) k x y a t r e = let z : _≡_ {A = ℕ} 0 1 = cc in omega arith
+  conditions-stopped zero k x y a t r e = eqb-false 0 1 refl cc
+  conditions-stopped (suc n) k x y a t r e = eqb-false 0 1 refl cc
 
   conditions-read : (n m k at s : ℕ) (q : Program) (a t : ℕ) (r : Program) → k + m ≡ n → n ≤ 8 → Asked n k at s q → readConditions f m k (reading at s q) ≡ reading a t r → Asked n n a t r
   unfolding readConditions
@@ -186,21 +187,21 @@ shape N f n a t r lo hi small w =
 
 end-read : (f : List ℕ) (x : Reading) (p : Program) → readEnd f x ≡ program p → (s : ℕ) × (x ≡ reading (length f) s p)
 unfolding readEnd
-end-read f (stopped n place) p e = absurd (let z : _≡_ {A = ℕ} 0 1 = cc in omega arith)
+end-read f (stopped n place) p e = absurd (eqb-false 0 1 refl cc)
 end-read f (reading at s q) p e = go (eqb at (length f)) refl e
   where
     go : (b : Bool) → eqb at (length f) ≡ b → cond b (program q) (refused 9 at) ≡ program p → (u : ℕ) × (reading at s q ≡ reading (length f) u p)
     go true g h = let d : q ≡ p = cc in (s, λ i. reading (eqb→eq at (length f) (subst T (sym g) tt) i) s (d i))
-    go false g h = absurd (let z : _≡_ {A = ℕ} 0 1 = cc in omega arith)
+    go false g h = absurd (eqb-false 0 1 refl cc)
 
 body-there : (f : List ℕ) (x : Reading) (a t : ℕ) (r : Program) → readBody f x ≡ reading a t r → (b : ℕ) × (u : ℕ) × (v : Program) × (x ≡ reading b u v)
 unfolding readBody
-body-there f (stopped n place) a t r e = absurd (let z : _≡_ {A = ℕ} 0 1 = cc in omega arith)
+body-there f (stopped n place) a t r e = absurd (eqb-false 0 1 refl cc)
 body-there f (reading b u v) a t r e = (b, u, v, refl)
 
 question-there : (f : List ℕ) (x : Reading) (a t : ℕ) (r : Program) → readQuestion f x ≡ reading a t r → (b : ℕ) × (u : ℕ) × (v : Program) × (x ≡ reading b u v)
 unfolding readQuestion
-question-there f (stopped n place) a t r e = absurd (let z : _≡_ {A = ℕ} 0 1 = cc in omega arith)
+question-there f (stopped n place) a t r e = absurd (eqb-false 0 1 refl cc)
 question-there f (reading b u v) a t r e = (b, u, v, refl)
 
 read-shape : (f : List ℕ) (p : Program) → readFile f ≡ program p → ProgramShape p × (length f ≤ 647)

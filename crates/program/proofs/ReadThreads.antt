@@ -9,6 +9,7 @@ use native.Mathlib.Omega.{arith}
 use lib.Dec.{T, eqb, leb, leb→le}
 use lib.ListN.{length, replicate, length-set}
 use lib.Seq.{getD-set-same, getD-set-other}
+use borrow.Author.Tests.{eqb-false}
 use Rattle.program.specs.Tests.{sumBelow}
 use Rattle.program.specs.Program.{Instruction, Code, Program, noCode, noCondition, codeOf}
 use Rattle.program.specs.Counts.{oneStore, storesAmong, storesFrom}
@@ -112,8 +113,8 @@ module _ (N : ℕ) where
     -- what is stopped stays stopped
     instructions-stopped : (i n k x y a t : ℕ) (r : Program) → readInstructions f i n k (stopped x y) ≡ reading a t r → ⊥
     unfolding readInstructions
-    instructions-stopped i zero k x y a t r e = let z : _≡_ {A = ℕ} 0 1 = cc in omega arith
-    instructions-stopped i (suc n) k x y a t r e = let z : _≡_ {A = ℕ} 0 1 = cc in omega arith
+    instructions-stopped i zero k x y a t r e = eqb-false 0 1 refl cc
+    instructions-stopped i (suc n) k x y a t r e = eqb-false 0 1 refl cc
 
     instructions-read : (i n m k at s : ℕ) (q : Program) (a t : ℕ) (r : Program) → i < 4 → k + m ≡ n → Within i n k at s q → readInstructions f i m k (reading at s q) ≡ reading a t r → Within i n n a t r
     unfolding readInstructions
@@ -184,8 +185,8 @@ module _ (N : ℕ) where
     -- ---- all threads
     threads-stopped : (n i x y a t : ℕ) (r : Program) → readThreads f n i (stopped x y) ≡ reading a t r → ⊥
     unfolding readThreads
-    threads-stopped zero i x y a t r e = let z : _≡_ {A = ℕ} 0 1 = cc in omega arith
-    threads-stopped (suc n) i x y a t r e = let z : _≡_ {A = ℕ} 0 1 = cc in omega arith
+    threads-stopped zero i x y a t r e = eqb-false 0 1 refl cc
+    threads-stopped (suc n) i x y a t r e = eqb-false 0 1 refl cc
 
     pub threads-read : (n m i at s : ℕ) (q : Program) (a t : ℕ) (r : Program) → i + m ≡ n → n ≤ 4 → Before i at s q → readThreads f m i (reading at s q) ≡ reading a t r → Before n a t r
     unfolding readThreads

@@ -8,13 +8,13 @@ use native.Mathlib.Nat.{add-zero}
 use native.Mathlib.Omega.{arith}
 use lib.Dec.{eqb, leb, ltb, eqb·suc-suc, leb·suc-suc}
 use lib.ListN.{length, set}
-use borrow.Author.Tests.{eq-eqb, ne-eqb, le-leb, lt-leb, lt-ltb, le-ltb, leb-true}
+use borrow.Author.Tests.{eq-eqb, ne-eqb, le-leb, lt-leb, lt-ltb, le-ltb, leb-true, eqb-false}
 use Rattle.program.specs.Tests.{allOf}
 use Rattle.program.specs.Program.{Instruction, Code, Condition, Program, noProgram, codeOf}
 use Rattle.program.specs.Counts.{oneStore}
 use Rattle.program.specs.WellFormed.{instructionTests, conditionTests}
 use Rattle.program.specs.File.{Reading, stopped, reading, byteAt, demand, marked, inRange, withHeader, withCode, withInstruction, withQuestion, instructionOf, conditionOf, readHeader, readInstruction, readInstructions, readThread, readCondition, readConditions, readQuestion}
-use Rattle.program.specs.Answers.{unless, firstFailing}
+use Rattle.program.specs.Inner.{unless, firstFailing}
 
 -- ---- a record's start
 module _ (f : List ℕ) (at first second n : ℕ) (on : Reading) (in-file : at ≤ length f) where
@@ -54,7 +54,7 @@ module _ (f : List ℕ) (at first second n r : ℕ) (e : Fault f at first second
       go : (b : Bool) → leb (at + 2 + n) (length f) ≡ b → (c : Bool)
           → demand b 1 at (demand c 2 at (reading 0 0 noProgram)) ≡ reading 0 0 noProgram → at + 2 + n ≤ length f
       go true q c k = leb-true _ _ q
-      go false q c k = absurd (let z : _≡_ {A = ℕ} 0 1 = cc in omega arith)
+      go false q c k = absurd (eqb-false 0 1 refl cc)
 
 -- ---- a body's bytes: the first test that fails
 pub in-range : (bs : List Bool) (n at : ℕ) (on : Reading) → inRange bs n at on ≡ cond (ltb (firstFailing bs) (length bs)) (stopped n (at + firstFailing bs)) on

@@ -5,3 +5,4 @@ pub mod WellFormed
 pub mod File
 pub mod Encode
 pub mod Answers
+pub mod Inner

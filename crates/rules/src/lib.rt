@@ -5,7 +5,7 @@ pub mod plain;
 ghost use mathlib.Core.Path.{_≡_};
 ghost use Prim.Native.Nat.{_+_, _^_, _<_, _≤_};
 ghost use Rattle.machine.specs.Rules.{execute};
-ghost use Rattle.machine.specs.Answers.{ruled, reach, ownStore};
+ghost use Rattle.machine.specs.Inner.{ruled, reach, ownStore};
 use crate::operands::address;
 use crate::operands::address_of_sum;
 use crate::operands::value_of;

@@ -2,7 +2,7 @@
 ghost use mathlib.Core.Path.{_≡_};
 ghost use Prim.Native.Nat.{_+_, _<_, _≤_};
 ghost use Rattle.machine.specs.Rules.{loadPre, readable, noneNewer, readValue, readView, ifAcquire, loadViews, loadDone, loadAt};
-ghost use Rattle.machine.specs.Answers.{ruled};
+ghost use Rattle.machine.specs.Inner.{ruled};
 use machine::Memory;
 use machine::Ruled;
 use machine::Thread;

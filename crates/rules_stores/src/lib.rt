@@ -4,7 +4,7 @@ ghost use Prim.Native.Nat.{_+_, _<_, _≤_};
 ghost use lib.Dec.{T};
 ghost use Rattle.machine.specs.State.{has};
 ghost use Rattle.machine.specs.Rules.{storePre, promised, ifRelease, storeViews, storeDone, storeAt};
-ghost use Rattle.machine.specs.Answers.{ruled, belowTime, stored, ownAt};
+ghost use Rattle.machine.specs.Inner.{ruled, belowTime, stored, ownAt};
 use machine::Memory;
 use machine::Ruled;
 use machine::Thread;

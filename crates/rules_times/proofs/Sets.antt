@@ -9,7 +9,7 @@ use native.Mathlib.Omega.{arith}
 use lib.Dec.{T, eqb, leb, eqb→eq}
 use lib.ListN.{length, getD}
 use lib.Pow.{shr-shr}
-use borrow.Author.Tests.{lt-ltb}
+use borrow.Author.Tests.{lt-ltb, eqb-false}
 use Rattle.program.specs.declared.Operand.{Operand}
 use Rattle.program.specs.declared.ComputeMode.{ComputeMode}
 use Rattle.program.specs.declared.LoadMode.{LoadMode}
@@ -23,7 +23,7 @@ use Rattle.machine.specs.declared.Message.{Message}
 use Rattle.machine.specs.declared.Memory.{Memory}
 use Rattle.machine.specs.declared.Thread.{Thread}
 use Rattle.machine.specs.State.{noMessage, messageAt, has, with}
-use Rattle.machine.specs.Promises.{First}
+use Rattle.machine.specs.Inner.{First}
 use Rattle.machine.specs.Rules.{readable}
 use Rattle.machine.proofs.Sets.{has-none, has-time, has-with, has-removed, with-without, with-small, grown-small}
 use Rattle.machine.proofs.Effects.{loadLocation, Effect, computed, loaded, stored, branched, fenced, effect, readable-time}
@@ -123,7 +123,7 @@ store-not-at-0 k a d e m s s' q = go s' (effect (Store k a d) m 0 s s' q)
     go s' (stored p u v) = no-time-0 (s .promises) (p .out)
 
 pub may-be-at-0 : (x : Instr) → AtZero x true
-may-be-at-0 x e m s s' q = absurd (let z : _≡_ {A = ℕ} 0 1 = cc in omega arith)
+may-be-at-0 x e m s s' q = absurd (eqb-false 0 1 refl cc)
 
 -- ---- the first time after t
 shifted : (p t u : ℕ) → t < u → has p u ≡ has (p / 2 ^ t) (u - t)

@@ -1,22 +1,24 @@
 -- The trace of an allowed answer replays: it is good and complete, and the question holds.
 -- Assumes nothing.
-use mathlib.Core.Path.{_≡_, refl, subst, _∙_}
+use mathlib.Core.Path.{_≡_, refl, sym, subst, _∙_}
 use mathlib.Core.Bool.{true, false}
 use mathlib.Core.List.{List, [], _∷_}
 use mathlib.Core.Option.{Option, none, some, Option·some-injective}
 use Prim.Native.Nat.{ℕ, _≤_}
-use native.Mathlib.Omega.{arith}
+use lib.Dec.{T}
 use lib.ListN.{length}
+use borrow.Author.Tests.{eqb-false}
 use Rattle.program.specs.declared.Program.{Program}
 use Rattle.program.specs.Counts.{size}
 use Rattle.program.specs.File.{program, readFile}
+use Rattle.program.proofs.Tests.{is-true, and-left}
 use Rattle.machine.specs.declared.Machine.{Machine}
 use Rattle.machine.specs.State.{fresh}
 use Rattle.theory_sequences.specs.Sequences.{run, wanted}
 use Rattle.theory_sequences.specs.Answer.{allowed}
 use Rattle.theory_sequences.proofs.Listed.{first-step}
 use Rattle.step.specs.Step.{Step, step}
-use Rattle.step.specs.Outcome.{asked}
+use Rattle.step.specs.Outcome.{complete, questionHolds, asked}
 use Rattle.step.specs.Trace.{traceBytes}
 use Rattle.trace_replay.specs.Replay.{ended}
 use Rattle.trace_replay.specs.Answers.{replayed, replay}
@@ -41,8 +43,13 @@ wanted-run p q h = go (run (stepping p) fresh q) refl h
   where
     go : (o : Option Machine) → run (stepping p) fresh q ≡ o → elim o [ none ↦ false | some y ↦ asked p y ] ≡ true
         → (y : Machine) × (run (stepping p) fresh q ≡ some y) × (asked p y ≡ true)
-    go none e h = absurd (let z : _≡_ {A = ℕ} 0 1 = cc in omega arith)
+    go none e h = absurd (eqb-false 0 1 refl cc)
     go (some y) e h = (y, e, h)
+
+-- what is asked is asked of a complete machine
+asked-complete : (p : Program) (y : Machine) → asked p y ≡ true → complete p y ≡ true
+unfolding asked
+asked-complete p y h = is-true _ (and-left (complete p y) (questionHolds p y) (subst T (sym h) tt))
 
 -- the trace of an allowed answer has no more steps than the program has instructions and stores together
 pub found-short : (p : Program) (b n : ℕ) (q : List Step) → answerTo p b ≡ allowed n q → length q ≤ size p
@@ -52,8 +59,8 @@ found-short p b n q e =
 
 -- FOUND REPLAYS: the trace of an allowed answer is good, and it is complete and the question holds
 pub found-replays : (f : List ℕ) (p : Program) → readFile f ≡ program p → (b n : ℕ) (q : List Step) → answerTo p b ≡ allowed n q
-    → (y : Machine) × (replay f (traceBytes q) ≡ replayed p (ended (length q) y)) × ((replay f (traceBytes q)) .holds ≡ true)
+    → (y : Machine) × (replay f (traceBytes q) ≡ replayed p (ended (length q) y)) × (complete p y ≡ true) × ((replay f (traceBytes q)) .holds ≡ true)
 found-replays f p good b n q e =
     let w = wanted-run p q (demand-3 p b (sequencesOf p) (listed p) .allowed-then n q e .is-wanted) in
     let t = run-in-turn p q fresh (w .0) (w .1) in
-    (w .0, in-turn-replayed f p good t, in-turn-holds f p good t ∙ w .2)
+    (w .0, in-turn-replayed f p good t, asked-complete p (w .0) (w .2), in-turn-holds f p good t ∙ w .2)

@@ -8,7 +8,7 @@ use native.Mathlib.Omega.{arith}
 use lib.Dec.{ltb}
 use lib.ListN.{length, take, drop}
 use lib.Seq.{take-at}
-use borrow.Author.Tests.{le-ltb}
+use borrow.Author.Tests.{le-ltb, eqb-false}
 use Rattle.program.specs.declared.Program.{Program}
 use Rattle.program.specs.File.{FileAnswer, refused, program, readFile}
 use Rattle.program.proofs.ReadFormed.{read-formed}
@@ -17,12 +17,15 @@ use Rattle.theory_sequences.specs.Sequences.{Listed, wanted}
 use Rattle.theory_sequences.specs.Answer as sequences
 use Rattle.theory_sequences.specs.Demand.{Demand}
 use Rattle.step.specs.Step.{Step}
+use Rattle.step.specs.Outcome.{complete}
 use Rattle.step.specs.Trace.{traceBytes}
-use Rattle.trace_replay.specs.Answers.{replay}
+use Rattle.trace_replay.specs.Replay.{ended}
+use Rattle.trace_replay.specs.Answers.{Good, Replayed, replayed, replay}
 use Rattle.search_sequences.specs.OfProgram.{stepping, answerTo}
 use Rattle.search_sequences.proofs.Meaning.{demand-3, more-budget-allowed, more-budget-forbidden}
 use Rattle.search_arrivals.proofs.Telling.{trace-length}
 use Rattle.search.specs.Answers.{Verdict, Allowed, Forbidden, NotFinished, Answer, answerOf, areaOf, refusal, answerOn, areaOn, Searched, SearchedWithin}
+use Rattle.search.specs.Meaning.{Replays}
 use Rattle.search.proofs.Told.{size-small}
 use Rattle.search.proofs.Found.{found-short, found-replays}
 
@@ -55,16 +58,16 @@ module _ {f : List ℕ} {p : Program} (good : readFile f ≡ program p) {area : 
   search-demand l h = (answerTo p b, demand-3 p b l h, is-answer, is-lent)
 
 -- ---- by the verdict
-verdict-of : Answer → Verdict
+pub verdict-of : Answer → Verdict
 verdict-of r = r .verdict
 
 -- which answer of the definition a verdict stands for
-data Which (p : Program) (b : ℕ) (area : List ℕ) (r : Answer) (after : List ℕ) : Type 0 where
+pub data Which (p : Program) (b : ℕ) (area : List ℕ) (r : Answer) (after : List ℕ) : Type 0 where
   is-allowed : (n : ℕ) (q : List Step) → answerTo p b ≡ sequences.allowed n q → r ≡ record { verdict = Allowed; count = n; steps = length q } → after ≡ traceBytes q ++ drop (6 * length q) area → Which p b area r after
   is-forbidden : (n : ℕ) → answerTo p b ≡ sequences.forbidden n → r ≡ record { verdict = Forbidden; count = n; steps = 0 } → after ≡ area → Which p b area r after
   is-unfinished : (n : ℕ) → answerTo p b ≡ sequences.unfinished n → r ≡ record { verdict = NotFinished; count = n; steps = 0 } → after ≡ area → Which p b area r after
 
-which : (p : Program) (b : ℕ) (area : List ℕ) (r : Answer) (after : List ℕ) → r ≡ answerOf (answerTo p b) → after ≡ areaOf (answerTo p b) area → Which p b area r after
+pub which : (p : Program) (b : ℕ) (area : List ℕ) (r : Answer) (after : List ℕ) → r ≡ answerOf (answerTo p b) → after ≡ areaOf (answerTo p b) area → Which p b area r after
 which p b area r after e g = go (answerTo p b) refl e g
   where
     go : (o : sequences.Answer Step) → answerTo p b ≡ o → r ≡ answerOf o → after ≡ areaOf o area → Which p b area r after
@@ -113,22 +116,24 @@ few-steps f b area r after s = go (course f b area r after s)
     go (has-run p d (is-forbidden n a e g)) = let k = ap (λ (y : Answer). y .steps) e in omega arith
     go (has-run p d (is-unfinished n a e g)) = let k = ap (λ (y : Answer). y .steps) e in omega arith
 
--- THE TRACE FOUND REPLAYS: the first 6 bytes a step of the area are a trace that is good and complete, and the question holds
-pub trace-replays : (f : List ℕ) (b : ℕ) (area : List ℕ) (r : Answer) (after : List ℕ) → Searched f b area r after → r .verdict ≡ Allowed
-    → ((replay f (take (6 * r .steps) after)) .steps ≡ r .steps) × ((replay f (take (6 * r .steps) after)) .holds ≡ true)
+-- THE TRACE FOUND REPLAYS
+pub trace-replays : (f : List ℕ) (b : ℕ) (area : List ℕ) (r : Answer) (after : List ℕ) → Searched f b area r after → r .verdict ≡ Allowed → Replays f r after
 unfolding verdict-of
 trace-replays f b area r after s v = go (course f b area r after s)
   where
-    go : Course f b area r after → ((replay f (take (6 * r .steps) after)) .steps ≡ r .steps) × ((replay f (take (6 * r .steps) after)) .holds ≡ true)
-    go (was-refused n place e g) = absurd (let w = ap verdict-of e in let z : _≡_ {A = ℕ} 0 1 = cc in omega arith)
-    go (has-run p d (is-forbidden n a e g)) = absurd (let w = ap verdict-of e in let z : _≡_ {A = ℕ} 0 1 = cc in omega arith)
-    go (has-run p d (is-unfinished n a e g)) = absurd (let w = ap verdict-of e in let z : _≡_ {A = ℕ} 0 1 = cc in omega arith)
+    go : Course f b area r after → Replays f r after
+    go (was-refused n place e g) = absurd (let w = ap verdict-of e in eqb-false 0 1 refl cc)
+    go (has-run p d (is-forbidden n a e g)) = absurd (let w = ap verdict-of e in eqb-false 0 1 refl cc)
+    go (has-run p d (is-unfinished n a e g)) = absurd (let w = ap verdict-of e in eqb-false 0 1 refl cc)
     go (has-run p d (is-allowed n q a e g)) =
         let size : r .steps ≡ length q = ap (λ (y : Answer). y .steps) e in
         let trace : take (6 * r .steps) after ≡ traceBytes q =
         ap (λ (k : ℕ). take (6 * k) after) size ∙ ap (take (6 * length q)) g ∙ take-at (traceBytes q) (drop (6 * length q) area) (6 * length q) (trace-length q) in
         let found = found-replays f p d b n q a in
-        (rw (trace, size) (ap (λ (y : _). y .steps) (found .1)), rw trace (found .2))
+        let same : (y : Replayed) → y ≡ replayed p (ended (length q) (found .0)) → (y .answer ≡ Good) × (y .steps ≡ length q) × (y .complete ≡ complete p (found .0)) = λ y h.
+        (ap (λ (z : Replayed). z .answer) h, ap (λ (z : Replayed). z .steps) h, ap (λ (z : Replayed). z .complete) h) in
+        let told = same (replay f (take (6 * r .steps) after)) (rw trace (found .1)) in
+        record { good = told .0; steps = told .1 ∙ sym size; complete = told .2 ∙ found .2; holds = rw trace (found .3) }
 
 -- A LARGER BUDGET never changes allowed or forbidden
 module _ (f : List ℕ) (b c : ℕ) (more : b ≤ c) {p : Program} (good : readFile f ≡ program p) {area area' : List ℕ} (long : 480 ≤ length area) (long' : 480 ≤ length area')
@@ -139,14 +144,14 @@ module _ (f : List ℕ) (b c : ℕ) (more : b ≤ c) {p : Program} (good : readF
     where
       go : Which p b area r after → r' ≡ r
       go (is-allowed n q a e g) = is-answer good long' s' ∙ ap answerOf (more-budget-allowed p b c n q more a) ∙ sym e
-      go (is-forbidden n a e g) = absurd (let w = ap verdict-of e in let z : _≡_ {A = ℕ} 0 1 = cc in omega arith)
-      go (is-unfinished n a e g) = absurd (let w = ap verdict-of e in let z : _≡_ {A = ℕ} 0 1 = cc in omega arith)
+      go (is-forbidden n a e g) = absurd (let w = ap verdict-of e in eqb-false 0 1 refl cc)
+      go (is-unfinished n a e g) = absurd (let w = ap verdict-of e in eqb-false 0 1 refl cc)
 
   pub same-forbidden : r .verdict ≡ Forbidden → r' ≡ r
   unfolding verdict-of
   same-forbidden v = go (which p b area r after (is-answer good long s) (is-lent good long s))
     where
       go : Which p b area r after → r' ≡ r
-      go (is-allowed n q a e g) = absurd (let w = ap verdict-of e in let z : _≡_ {A = ℕ} 0 1 = cc in omega arith)
+      go (is-allowed n q a e g) = absurd (let w = ap verdict-of e in eqb-false 0 1 refl cc)
       go (is-forbidden n a e g) = is-answer good long' s' ∙ ap answerOf (more-budget-forbidden p b c n more a) ∙ sym e
-      go (is-unfinished n a e g) = absurd (let w = ap verdict-of e in let z : _≡_ {A = ℕ} 0 1 = cc in omega arith)
+      go (is-unfinished n a e g) = absurd (let w = ap verdict-of e in eqb-false 0 1 refl cc)

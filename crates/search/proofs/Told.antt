@@ -6,7 +6,7 @@ use Prim.Native.Nat.{ℕ, zero, suc, _+_, _-_, _*_, _≤_, _<_}
 use native.Mathlib.Omega.{arith}
 use lib.Dec.{T}
 use lib.ListN.{length, drop, replicate}
-use borrow.Author.Tests.{lt-ltb, le-ltb}
+use borrow.Author.Tests.{lt-ltb, le-ltb, eqb-false}
 use Rattle.program.specs.declared.FileRead.{FileRead}
 use Rattle.program.specs.declared.Program.{Program}
 use Rattle.program.specs.declared.ReadAnswer.the-variants as reading
@@ -23,14 +23,16 @@ use Rattle.machine.specs.State.{fresh}
 use Rattle.encode_bytes.specs.Lists.{put}
 use Rattle.theory_sequences.specs.Sequences.{upto, wanted}
 use Rattle.theory_sequences.specs.Answer as sequences
-use Rattle.theory_sequences.proofs.Scan.{Scan, going, found, out, scan, told, answer-told, leftOf, left-le}
+use Rattle.theory_sequences.proofs.Scan.{answer-told, left-le}
+use Rattle.theory_sequences.specs.Scan.{Scan, going, found, out, scan, told, leftOf}
 use Rattle.step.specs.Step.{Step}
 use Rattle.step.specs.Trace.{traceBytes}
 use Rattle.step.proofs.Bound.{potential-fresh}
 use Rattle.step.proofs.Kept.{fresh-formed}
 use Rattle.trace_replay.proofs.Files.{read-good, read-refused}
 use Rattle.search_sequences.specs.OfProgram.{stepping, sequencesOf, answerTo}
-use Rattle.search.specs.Answers.{Allowed, Forbidden, NotFinished, Answer, answerOf, areaOf, refusal, answerOn, areaOn, Answers, SearchedWithin, cleared, tableOn}
+use Rattle.search.specs.Answers.{Allowed, Forbidden, NotFinished, Answer, answerOf, areaOf, refusal, answerOn, areaOn, SearchedWithin, cleared, tableOn}
+use Rattle.search.specs.Inner.{AnswersOn}
 use Rattle.search_table.specs.Table.{EverySlot}
 use Rattle.search_table.proofs.Laws.{holds-cleared}
 use Rattle.search_arrivals.specs.declared.Ran.{Ran}
@@ -90,11 +92,11 @@ module _ (p : Program) (b : ℕ) (r : Ran) (old new : List ℕ) (t : Reports 0 (
   ended (Found c n) = record { verdict = Allowed; count = b - c; steps = n }
   ended Out = record { verdict = NotFinished; count = b; steps = 0 }
 
-  told-is : Answers p b (ended r) old new
+  told-is : AnswersOn p b (ended r) old new
   unfolding ended
   told-is = go (visiting p fresh b) refl t
     where
-      go : (o : Scan Step) → visiting p fresh b ≡ o → Reports 0 o r old new → Answers p b (ended r) old new
+      go : (o : Scan Step) → visiting p fresh b ≡ o → Reports 0 o r old new → AnswersOn p b (ended r) old new
       go (going c) e u =
           let w : answerTo p b ≡ sequences.forbidden (b - c) = sym (told-answer p b) ∙ ap (told b) e in
           record { answer = ap ended (u .answer) ∙ ap answerOf (sym w); lent = u .lent ∙ ap (λ (a : sequences.Answer Step). areaOf a old) (sym w) }
@@ -109,17 +111,17 @@ module _ (p : Program) (b : ℕ) (r : Ran) (old new : List ℕ) (t : Reports 0 (
           let w : answerTo p b ≡ sequences.unfinished b = sym (told-answer p b) ∙ ap (told b) e in
           record { answer = ap ended (u .answer) ∙ ap answerOf (sym w); lent = u .lent ∙ ap (λ (a : sequences.Answer Step). areaOf a old) (sym w) }
 
-  pub told-forbidden : (c : ℕ) → r ≡ Going c → Answers p b (record { verdict = Forbidden; count = b - c; steps = 0 }) old new
+  pub told-forbidden : (c : ℕ) → r ≡ Going c → AnswersOn p b (record { verdict = Forbidden; count = b - c; steps = 0 }) old new
   unfolding ended
-  told-forbidden c e = subst (λ (a : Ran). Answers p b (ended a) old new) e told-is
+  told-forbidden c e = subst (λ (a : Ran). AnswersOn p b (ended a) old new) e told-is
 
-  pub told-allowed : (c n : ℕ) → r ≡ Found c n → Answers p b (record { verdict = Allowed; count = b - c; steps = n }) old new
+  pub told-allowed : (c n : ℕ) → r ≡ Found c n → AnswersOn p b (record { verdict = Allowed; count = b - c; steps = n }) old new
   unfolding ended
-  told-allowed c n e = subst (λ (a : Ran). Answers p b (ended a) old new) e told-is
+  told-allowed c n e = subst (λ (a : Ran). AnswersOn p b (ended a) old new) e told-is
 
-  pub told-unfinished : r ≡ Out → Answers p b (record { verdict = NotFinished; count = b; steps = 0 }) old new
+  pub told-unfinished : r ≡ Out → AnswersOn p b (record { verdict = NotFinished; count = b; steps = 0 }) old new
   unfolding ended
-  told-unfinished e = subst (λ (a : Ran). Answers p b (ended a) old new) e told-is
+  told-unfinished e = subst (λ (a : Ran). AnswersOn p b (ended a) old new) e told-is
 
   -- no more is left than was there
   left : leftOf (visiting p fresh b) ≤ b
@@ -130,16 +132,16 @@ module _ (p : Program) (b : ℕ) (r : Ran) (old new : List ℕ) (t : Reports 0 (
     where
       go : (o : Scan Step) → leftOf o ≤ b → Reports 0 o r old new → c ≤ b
       go (going k) l u = let q : k ≡ c = let a = u .answer in cc in omega arith
-      go (found k q) l u = absurd (let a = u .answer in let z : _≡_ {A = ℕ} 0 1 = cc in omega arith)
-      go out l u = absurd (let a = u .answer in let z : _≡_ {A = ℕ} 0 1 = cc in omega arith)
+      go (found k q) l u = absurd (let a = u .answer in eqb-false 0 1 refl cc)
+      go out l u = absurd (let a = u .answer in eqb-false 0 1 refl cc)
 
   pub found-left : (c n : ℕ) → r ≡ Found c n → c ≤ b
   found-left c n e = go (visiting p fresh b) left t
     where
       go : (o : Scan Step) → leftOf o ≤ b → Reports 0 o r old new → c ≤ b
-      go (going k) l u = absurd (let a = u .answer in let z : _≡_ {A = ℕ} 0 1 = cc in omega arith)
+      go (going k) l u = absurd (let a = u .answer in eqb-false 0 1 refl cc)
       go (found k q) l u = let w : k ≡ c = let a = u .answer in cc in omega arith
-      go out l u = absurd (let a = u .answer in let z : _≡_ {A = ℕ} 0 1 = cc in omega arith)
+      go out l u = absurd (let a = u .answer in eqb-false 0 1 refl cc)
 
 -- ---- a program file
 pub file-formed : (f : List ℕ) (r : FileRead) → r ≡ fileRead (readFile f) → r .answer ≡ reading.Good → T (programTest (r .program))
@@ -157,7 +159,7 @@ module _ (f : List ℕ) (b : ℕ) (area table : List ℕ) (r : FileRead) (e : r 
   pub area-short : r .answer ≡ reading.Good → length area < 480 → (a : Answer) → a ≡ refusal 30 0 → SearchedWithin f b area table a area table
   area-short h l a q = told-on _ (read-good f r e h) a area table (q ∙ rw (lt-ltb (length area) 480 l)) (rw (lt-ltb (length area) 480 l)) (rw (lt-ltb (length area) 480 l))
 
-  pub area-long : r .answer ≡ reading.Good → 480 ≤ length area → (a : Answer) (new table' : List ℕ) → Answers (r .program) b a area new → table' ≡ cleared table → SearchedWithin f b area table a new table'
+  pub area-long : r .answer ≡ reading.Good → 480 ≤ length area → (a : Answer) (new table' : List ℕ) → AnswersOn (r .program) b a area new → table' ≡ cleared table → SearchedWithin f b area table a new table'
   area-long h l a new table' q c =
       told-on _ (read-good f r e h) a new table' (q .answer ∙ rw (le-ltb (length area) 480 l)) (q .lent ∙ rw (le-ltb (length area) 480 l)) (c ∙ rw (le-ltb (length area) 480 l))
 

@@ -6,7 +6,6 @@ use mathlib.Core.List.{List, _++_}
 use Prim.Native.Nat.{ℕ, _*_}
 use lib.Dec.{ltb}
 use lib.ListN.{length, drop, replicate}
-use Rattle.program.specs.declared.Program.{Program}
 use Rattle.program.specs.File.{FileAnswer, refused, program, readFile}
 use Rattle.step.specs.Step.{Step}
 use Rattle.step.specs.Trace.{traceBytes}
@@ -27,11 +26,6 @@ abbrev pub areaOf : sequences.Answer Step → List ℕ → List ℕ
 areaOf (sequences.allowed n q) area = traceBytes q ++ drop (6 * length q) area
 areaOf (sequences.forbidden n) area = area
 areaOf (sequences.unfinished n) area = area
-
--- both, on a program
-pub record Answers (p : Program) (b : ℕ) (r : Answer) (area after : List ℕ) : Type 0 where
-  pub answer : r ≡ answerOf (answerTo p b)
-  pub lent : after ≡ areaOf (answerTo p b) area
 
 -- a refusal: its number and place, count 0
 abbrev pub refusal : ℕ → ℕ → Answer

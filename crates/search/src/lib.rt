@@ -4,7 +4,8 @@ ghost use Prim.Native.Nat.{_≤_};
 ghost use lib.Dec.{T};
 ghost use lib.ListN.{length};
 ghost use Rattle.program.specs.WellFormed.{programTest};
-ghost use Rattle.search.specs.Answers.{refusal, Answers, Searched, SearchedWithin, cleared};
+ghost use Rattle.search.specs.Answers.{refusal, Searched, SearchedWithin, cleared};
+ghost use Rattle.search.specs.Inner.{AnswersOn};
 use file_reader::ReadAnswer;
 use file_reader::read;
 use machine::machines::fresh;
@@ -41,7 +42,7 @@ fn refusal(number: u8, place: usize) -> Answer
 // The search on a program that is well formed, with an area that has room for every trace. The table may hold anything before.
 fn search_program(p: Program, budget: u64, area: &mut [u8], table: &mut [u8]) -> Answer
     requires { ⌜ T (programTest p) × (480 ≤ length (now area)) ⌝ }
-    ensures { λ r. ⌜ Answers p budget r (now (area .entry)) (now (area .exit)) × (now (table .exit) ≡ cleared (now (table .entry))) ⌝ }
+    ensures { λ r. ⌜ AnswersOn p budget r (now (area .entry)) (now (area .exit)) × (now (table .exit) ≡ cleared (now (table .entry))) ⌝ }
 {
     clear(table);
     let ran = visit(p, fresh(), 0, budget, area, table);

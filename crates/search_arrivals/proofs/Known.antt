@@ -13,7 +13,8 @@ use Rattle.machine.specs.declared.Machine.{Machine}
 use Rattle.theory_sequences.specs.Sequences.{upto, wanted, Listed}
 use Rattle.theory_sequences.specs.Demand.{NoneWanted}
 use Rattle.theory_sequences.proofs.Listed.{only}
-use Rattle.theory_sequences.proofs.Scan.{Scan, going, out, scan-all, scan-spent, scan-went}
+use Rattle.theory_sequences.proofs.Scan.{scan-all, scan-spent, scan-went}
+use Rattle.theory_sequences.specs.Scan.{Scan, going, out}
 use Rattle.step.specs.Step.{Step}
 use Rattle.machine.specs.WellFormed.{Formed}
 use Rattle.encode_machine.proofs.Sizes.{formed-machine-sized}

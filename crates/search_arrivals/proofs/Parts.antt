@@ -10,7 +10,8 @@ use Rattle.program.specs.declared.Program.{Program}
 use Rattle.machine.specs.declared.Machine.{Machine}
 use Rattle.theory_sequences.specs.Sequences.{Among}
 use Rattle.theory_sequences.proofs.Scan as scans
-use Rattle.theory_sequences.proofs.Scan.{Scan, going, found, out, andThen, under, visited, ahead}
+use Rattle.theory_sequences.proofs.Scan.{visited, ahead}
+use Rattle.theory_sequences.specs.Scan.{Scan, going, found, out, andThen, under}
 use Rattle.step.specs.Step.{Step, rejected, accepted, step, taken}
 use Rattle.step.specs.Order.{everyStep}
 use Rattle.step.specs.Outcome.{asked}

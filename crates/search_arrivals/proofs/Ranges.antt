@@ -7,7 +7,7 @@ use native.Mathlib.Omega.{arith}
 use borrow.Author.Tests.{lt-ltb, le-ltb}
 use Rattle.step.specs.Step.{Step}
 use Rattle.step.specs.Order.{range, forEach, execution, promise, executions, promises, everyStep}
-use Rattle.search_sequences.proofs.Keys.{keyPromise}
+use Rattle.search_sequences.specs.Numbers.{keyPromise}
 use Rattle.search_tries.specs.Steps.{stepNumbered}
 
 range-append : (a m n : ℕ) → range a (m + n) ≡ range a m ++ range (a + m) n

@@ -8,7 +8,7 @@ use native.Mathlib.Omega.{arith}
 use Rattle.program.specs.declared.Program.{Program}
 use Rattle.machine.specs.declared.Machine.{Machine}
 use Rattle.theory_sequences.proofs.Ordered.{among-unmap}
-use Rattle.theory_sequences.proofs.Scan.{going}
+use Rattle.theory_sequences.specs.Scan.{going}
 use Rattle.step.specs.Step.{Step, step, taken}
 use Rattle.step.specs.Order.{range}
 use Rattle.search_arrivals.specs.Visits.{trying}

@@ -7,13 +7,14 @@ use Prim.Native.Nat.{ℕ, _+_, _*_, _≤_}
 use native.Mathlib.Omega.{arith}
 use lib.ListN.{length, take, drop}
 use lib.Seq.{take-append-le, take-take, drop-at, length-take-le}
+use borrow.Author.Tests.{eqb-false}
 use Rattle.program.specs.declared.Program.{Program}
 use Rattle.machine.specs.declared.Machine.{Machine}
 use Rattle.step.specs.Step.{Step}
 use Rattle.step.specs.Outcome.{complete, questionHolds, asked}
 use Rattle.step.specs.Trace.{stepBytes, traceBytes}
 use Rattle.encode_bytes.specs.Lists.{put}
-use Rattle.theory_sequences.proofs.Scan.{Scan, going, found, out}
+use Rattle.theory_sequences.specs.Scan.{Scan, going, found, out}
 use Rattle.search_arrivals.specs.Visits.{Ran, Going, Reports}
 
 pub trace-length : (q : List Step) → length (traceBytes q) ≡ 6 * length q
@@ -42,8 +43,8 @@ module _ {d : ℕ} {r : Ran} {old new : List ℕ} where
   -- it goes on with what is left, and the area is as it was
   pub went-on : (o : Scan Step) → Reports d o r old new → (b : ℕ) → r ≡ Going b → (o ≡ going b) × (new ≡ old)
   went-on (going c) t b e = let q : c ≡ b = let a = t .answer in cc in (ap going q, t .lent)
-  went-on (found c q) t b e = absurd (let a = t .answer in let z : _≡_ {A = ℕ} 0 1 = cc in omega arith)
-  went-on out t b e = absurd (let a = t .answer in let z : _≡_ {A = ℕ} 0 1 = cc in omega arith)
+  went-on (found c q) t b e = absurd (let a = t .answer in eqb-false 0 1 refl cc)
+  went-on out t b e = absurd (let a = t .answer in eqb-false 0 1 refl cc)
 
 -- ---- the asked outcome in its two parts
 module _ (p : Program) (x : Machine) (a : Bool) (e : a ≡ complete p x) where

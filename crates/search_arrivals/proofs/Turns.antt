@@ -8,6 +8,7 @@ use native.Mathlib.Decide.{decLt}
 use native.Mathlib.Omega.{arith}
 use lib.Dec.{T, eqb, eqb→eq}
 use lib.ListN.{length}
+use borrow.Author.Tests.{eqb-false}
 use Rattle.program.specs.declared.Code.{Code}
 use Rattle.program.specs.declared.Program.{Program}
 use Rattle.machine.specs.declared.Memory.{Memory}
@@ -21,9 +22,10 @@ use Rattle.machine.specs.WellFormed.{Formed}
 use Rattle.certify.proofs.Asked.{program-facts}
 use Rattle.encode_bytes.specs.Lists.{put}
 use Rattle.encode_bytes.proofs.Putting.{put-none}
-use Rattle.theory_sequences.proofs.Scan.{Scan, going, found, out, andThen, under, found-short}
+use Rattle.theory_sequences.proofs.Scan.{found-short}
+use Rattle.theory_sequences.specs.Scan.{Scan, going, found, out, andThen, under}
 use Rattle.step.specs.Step.{Step, accepted, rejected, step}
-use Rattle.step.specs.Answers.{Here}
+use Rattle.step.specs.Inner.{Here}
 use Rattle.step.specs.Outcome.{complete, questionHolds, asked}
 use Rattle.step.specs.Trace.{stepBytes, traceBytes}
 use Rattle.search_sequences.specs.OfProgram.{stepping}
@@ -132,8 +134,8 @@ module _ (p : Program) (x : Machine) where
         out-below d r old new t z = subst (λ (o : Scan Step). Reports d o Out old new) (sym at-step) (go (visiting p y rest) refl t)
           where
             go : (o : Scan Step) → visiting p y rest ≡ o → Reports (d + 1) o r old new → Reports d (andThen (trying p x (stepNumbered i k ∷ []) rest) rest-of) Out old new
-            go (going c) q u = absurd (let a = u .answer in let f : _≡_ {A = ℕ} 0 1 = cc in omega arith)
-            go (found c s) q u = absurd (let a = u .answer in let f : _≡_ {A = ℕ} 0 1 = cc in omega arith)
+            go (going c) q u = absurd (let a = u .answer in eqb-false 0 1 refl cc)
+            go (found c s) q u = absurd (let a = u .answer in eqb-false 0 1 refl cc)
             go out q u = subst (λ (o : Scan Step). Reports d (andThen o rest-of) Out old new) (sym (below ∙ ap (under (stepNumbered i k)) q)) (record { answer = refl; lent = u .lent })
 
         pub found-below : (d b n : ℕ) (r : Ran) (old new last : List ℕ) → Visitable p y (d + 1) old → Reports (d + 1) (visiting p y rest) r old new → r ≡ Found b n
@@ -141,8 +143,8 @@ module _ (p : Program) (x : Machine) where
         found-below d b n r old new last room t z s f put-it = subst (λ (o : Scan Step). Reports d o (Found b n) old last) (sym at-step) (go (visiting p y rest) refl t)
           where
             go : (o : Scan Step) → visiting p y rest ≡ o → Reports (d + 1) o r old new → Reports d (andThen (trying p x (stepNumbered i k ∷ []) rest) rest-of) (Found b n) old last
-            go (going c) q u = absurd (let a = u .answer in let f : _≡_ {A = ℕ} 0 1 = cc in omega arith)
-            go out q u = absurd (let a = u .answer in let f : _≡_ {A = ℕ} 0 1 = cc in omega arith)
+            go (going c) q u = absurd (let a = u .answer in eqb-false 0 1 refl cc)
+            go out q u = absurd (let a = u .answer in eqb-false 0 1 refl cc)
             go (found c s') q u =
                 let a : Found b n ≡ Found c (d + 1 + length s') = sym z ∙ u .answer in
                 let same : b ≡ c = cc in

@@ -11,7 +11,7 @@ use Rattle.machine.specs.declared.Machine.{Machine}
 use Rattle.machine.specs.WellFormed.{Formed}
 use Rattle.theory_sequences.specs.Sequences.{upto, branches, wanted}
 use Rattle.theory_sequences.specs.Demand.{NoneWanted}
-use Rattle.theory_sequences.proofs.Scan.{Scan, going, found, out, scan}
+use Rattle.theory_sequences.specs.Scan.{Scan, going, found, out, scan}
 use Rattle.step.specs.Step.{Step}
 use Rattle.step.specs.Trace.{traceBytes}
 use Rattle.step.proofs.Bound.{potential}

@@ -11,12 +11,13 @@ use native.Mathlib.Omega.{arith}
 use lib.Dec.{T, eqb, leb, ltb, eqb→eq, leb→le, lit<}
 use lib.ListN.{length, getD, set, length-set}
 use lib.Seq.{getD-set-same, getD-set-other}
+use borrow.Author.Tests.{eqb-false}
 use Rattle.theory_views.specs.Views.{viewAt, raiseAt}
 use Rattle.theory_views.proofs.Entries.{set-all, set-both}
 use Rattle.theory_views.proofs.Merging.{length-raise, raise-same, raise-reaches}
 use Rattle.program.proofs.Tests.{and-left, and-right, below-at, below-all}
 use Rattle.machine.specs.State.{noMessage, messageAt, append, has, with, freshForward, withRegister, raiseCoherence, withViews, withPromises}
-use Rattle.machine.specs.Rules.{next, valueOf, viewOf₂, address, advance, newer, readable, noneNewer, readValue, readView, loadViews, execute, addPromise}
+use Rattle.machine.specs.Rules.{valueOf, viewOf₂, address, advance, newer, readable, noneNewer, readValue, readView, loadViews, execute, addPromise}
 use Rattle.machine.proofs.Sets.{has-positive, has-none, has-without, has-with, with-without}
 use Rattle.machine.proofs.Memories.{message-stays, message-new}
 use Rattle.machine.proofs.Effects.{loadLocation, loadPreView, loadPostView, Promised, Effect, computed, loaded, stored, branched, fenced, effect, read-there, effect-time}
@@ -173,13 +174,13 @@ same-filled h m m' w q pos low room places e =
 
 -- the message of a store, of one thread and of another
 own-other : (i j : ℕ) (s : Thread) (x : Instr) (w : Message) → messageOf i s x ≡ some w → (w' : Message) × (messageOf j s x ≡ some w') × Twin w w'
-own-other i j s (Compute k r a b) w e = absurd (let z : _≡_ {A = ℕ} 0 1 = cc in omega arith)
-own-other i j s (Load k r a b) w e = absurd (let z : _≡_ {A = ℕ} 0 1 = cc in omega arith)
+own-other i j s (Compute k r a b) w e = absurd (eqb-false 0 1 refl cc)
+own-other i j s (Load k r a b) w e = absurd (eqb-false 0 1 refl cc)
 own-other i j s (Store k a d) w e =
     let q : record { location = address (valueOf s a); value = valueOf s d; thread = i } ≡ w = cc in
     (record { location = address (valueOf s a); value = valueOf s d; thread = j }, refl, (ap (λ (z : Message). z .location) (sym q), ap (λ (z : Message). z .value) (sym q)))
-own-other i j s (Branch n a b) w e = absurd (let z : _≡_ {A = ℕ} 0 1 = cc in omega arith)
-own-other i j s (Fence k) w e = absurd (let z : _≡_ {A = ℕ} 0 1 = cc in omega arith)
+own-other i j s (Branch n a b) w e = absurd (eqb-false 0 1 refl cc)
+own-other i j s (Fence k) w e = absurd (eqb-false 0 1 refl cc)
 
 -- what a store with its own message does on the one memory it does on the other, for whichever thread
 pub own-carried : {h : ℕ} {m m' : Memory} → Same h m m' → m .count + 1 ≢ h → (i j : ℕ) (s : Thread) (x : Instr) (w : Message) → messageOf i s x ≡ some w

@@ -21,14 +21,14 @@ use Rattle.certify.proofs.Candidates.{Write, isIn, candidates}
 use Rattle.certify.proofs.Law.{candidate-law}
 use Rattle.theory_sequences.specs.Sequences.{Among, Ascending, branches}
 use Rattle.theory_sequences.proofs.Ordered.{among-left, among-right, among-cases, among-map, among-unmap, ascending-append}
-use Rattle.theory_sequences.proofs.Scan.{told}
+use Rattle.theory_sequences.specs.Scan.{told}
 use Rattle.theory_sequences.proofs.Fewer.{hunt, hunt-answer, rising-same}
 use Rattle.step.specs.Step.{Step, accepted, step}
 use Rattle.step.specs.Order.{Less, range, forEach, execution, promise, everyStep}
 use Rattle.step.proofs.Backwards.{promisedMemory, promisedThread, Did, executed, promised, did}
 use Rattle.step.proofs.Bound.{well-formed}
 use Rattle.search_sequences.specs.OfProgram.{stepping, sequencesOf, answerTo}
-use Rattle.search_sequences.proofs.Keys.{keyPromise}
+use Rattle.search_sequences.specs.Numbers.{keyPromise}
 use Rattle.search_sequences.proofs.Steps.{range-low, range-has, each-has, each-from, each-ascending, map-ascending, execution-tried, promise-tried}
 use Rattle.search_sequences.proofs.Keys.{insertKey, insert-from, insert-has, insert-keeps, insert-ascending, keys-ascending}
 use Rattle.search_sequences.proofs.Machine.{taken-accepted, lawful}

@@ -4,7 +4,7 @@ use mathlib.Core.Path.{_≡_, refl, sym, subst}
 use mathlib.Core.Logic.{_⊎_, inl, inr, ⊎-elim}
 use mathlib.Core.Bool.{Bool, true, false}
 use mathlib.Core.List.{List, [], _∷_, map}
-use Prim.Native.Nat.{ℕ, _/_, _%_, _<_}
+use Prim.Native.Nat.{ℕ, _/_, _<_}
 use native.Mathlib.Decide.{decLt}
 use native.Mathlib.Omega.{arith}
 use lib.Dec.{ltb, eqb}
@@ -12,7 +12,8 @@ use borrow.Author.Tests.{ltb-true, ltb-false, eqb-true, eqb-false}
 use Rattle.theory_sequences.specs.Sequences.{Among, Ascending}
 use Rattle.theory_sequences.proofs.Ordered.{among-unmap}
 use Rattle.step.specs.Step.{Step}
-use Rattle.step.specs.Order.{Less, promise}
+use Rattle.search_sequences.specs.Numbers.{keyPromise}
+use Rattle.step.specs.Order.{Less}
 
 -- n in its place, unless it stands there already
 unfoldable pub insertKey : ℕ → List ℕ → List ℕ
@@ -66,10 +67,6 @@ insert-ascending n (k ∷ ks) s = go (ltb n k) (eqb n k) refl refl (insert-ascen
         let l = ltb-false n k e in
         let x = eqb-false n k f in
         ((λ b i. ⊎-elim (λ q. omega (arith, x)) (λ j. s .0 b j) (insert-from n b ks i)), rec)
-
--- ---- promises by their number: location, then value
-abbrev pub keyPromise : ℕ → ℕ → Step
-keyPromise i k = promise i (k / 256) (k % 256)
 
 key-less : (i j k : ℕ) → j < k → Less (keyPromise i j) (keyPromise i k)
 key-less i j k h = elim (decLt (j / 256) (k / 256)) [ yes l ↦ inr (refl, inr (refl, inl l)) | no l ↦ inr (refl, inr (refl, inr (omega arith, omega arith))) ]

@@ -1,9 +1,9 @@
 -- The machine of a program takes steps as the theory of sequences asks.
 -- Assumes nothing.
-use mathlib.Core.Path.{_≡_}
+use mathlib.Core.Path.{_≡_, refl}
 use mathlib.Core.Option.{some}
-use Prim.Native.Nat.{ℕ}
 use native.Mathlib.Omega.{arith}
+use borrow.Author.Tests.{eqb-false}
 use Rattle.program.specs.declared.Program.{Program}
 use Rattle.machine.specs.declared.Machine.{Machine}
 use Rattle.machine.proofs.Effects.{effect-time}
@@ -20,7 +20,7 @@ use Rattle.search_sequences.proofs.Steps.{less-asym, rising, execution-
 
 -- a step is taken exactly if it is accepted
 pub taken-accepted : (o : Decision) (x : Machine) → taken o ≡ some x → o ≡ accepted x
-taken-accepted (rejected n) x e = absurd (let z : _≡_ {A = ℕ} 0 1 = cc in omega arith)
+taken-accepted (rejected n) x e = absurd (eqb-false 0 1 refl cc)
 taken-accepted (accepted y) x e = cc
 
 tried-did : (p : Program) (x : Machine) → ProgramOk p → MachineOk p x → {k : Step} {y : Machine} → Did p x k y → Among k everyStep

@@ -13,7 +13,7 @@ use Rattle.machine.specs.declared.Machine.{Machine}
 use Rattle.machine.specs.State.{fresh}
 use Rattle.machine.specs.WellFormed.{machineTest}
 use Rattle.theory_sequences.specs.Answer.{Answer}
-use Rattle.theory_sequences.proofs.Scan.{told}
+use Rattle.theory_sequences.specs.Scan.{told}
 use Rattle.theory_sequences.proofs.Fewer.{hunt}
 use Rattle.theory_sequences.proofs.Alike.{stepped-by, hunt-alike}
 use Rattle.step.specs.Step.{Step, ruleStep, step, taken}

@@ -1,1 +1,2 @@
 pub mod OfProgram
+pub mod Numbers

@@ -10,7 +10,8 @@ use lib.ListN.{length, getD, take, drop, replicate, length-append, length-drop, 
 use lib.Seq.{take-at, drop-at, drop-drop, getD-take, getD-drop, ext-getD, length-take-le}
 use Rattle.theory_views.proofs.Entries.{replicate-all}
 use Rattle.machine.specs.declared.Machine.{Machine}
-use Rattle.encode_machine.specs.Value.{machineBytes, machineOf, SizedMachine}
+use Rattle.encode_machine.specs.Value.{machineBytes, machineOf}
+use Rattle.encode_machine.specs.Sized.{SizedMachine}
 use Rattle.encode_machine.proofs.Back.{machine-back}
 use Rattle.encode_machine.proofs.Lengths.{machine-length}
 use Rattle.encode_bytes.specs.Lists.{put}

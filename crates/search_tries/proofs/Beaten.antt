@@ -31,7 +31,7 @@ use Rattle.search_promises.proofs.Law.{same-run}
 use Rattle.step.specs.Step.{step, taken}
 use Rattle.step.specs.Order.{execution}
 use Rattle.step.specs.declared.StepAnswer.the-variants.{Taken, Refused}
-use Rattle.step.specs.Answers.{Here, Settles}
+use Rattle.step.specs.Inner.{Here, Settles}
 use Rattle.step.proofs.Stepping.{settle-yes, settle-no}
 use Rattle.search_tries.specs.Worthwhile.{Attempts, Attempted, timely, answerOnly, Worth, Beaten, Narrowed}
 use Rattle.search_tries.proofs.Refused.{not-certified}

@@ -30,9 +30,9 @@ use Rattle.search_promises.proofs.Kept.{reached-law}
 use Rattle.step.specs.Step.{Step, step, taken}
 use Rattle.step.specs.Order.{execution}
 use Rattle.step.specs.declared.Moved.{Moved}
-use Rattle.step.specs.Answers.{Here, PromisesKept, Moves}
+use Rattle.step.specs.Inner.{Here, PromisesKept, Moves}
 use Rattle.step.proofs.Stepping.{kind-promise}
-use Rattle.search_sequences.proofs.Keys.{keyPromise}
+use Rattle.search_sequences.specs.Numbers.{keyPromise}
 use Rattle.search_tries.specs.Steps.{stepNumbered, Numbered, NextStep}
 use Rattle.rules_times.specs.Times.{AtZero, Later, After}
 use Rattle.search_tries.specs.Worthwhile.{Attempts, Ahead, timely, Worth, NextTime, Promising, Foreseen, Keepable}

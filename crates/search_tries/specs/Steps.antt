@@ -14,8 +14,8 @@ use Rattle.machine.specs.declared.Machine.{Machine}
 use Rattle.machine.specs.State.{threadOf}
 use Rattle.step.specs.Step.{Step, step, taken}
 use Rattle.step.specs.Order.{execution}
-use Rattle.step.specs.Answers.{Here}
-use Rattle.search_sequences.proofs.Keys.{keyPromise}
+use Rattle.step.specs.Inner.{Here}
+use Rattle.search_sequences.specs.Numbers.{keyPromise}
 
 -- 0 to 16 execute at that time, from 17 on promise
 unfoldable pub stepNumbered : ℕ → ℕ → Step

@@ -21,9 +21,9 @@ use Rattle.certify_cares.specs.Cares.{careOf}
 use Rattle.certify.specs.Tries.{NoBetter}
 use Rattle.step.specs.Step.{Step, step, taken}
 use Rattle.step.specs.Order.{execution}
-use Rattle.step.specs.Answers.{Here}
+use Rattle.step.specs.Inner.{Here}
 use Rattle.step.specs.declared.Moved.{Moved}
-use Rattle.search_sequences.proofs.Keys.{keyPromise}
+use Rattle.search_sequences.specs.Numbers.{keyPromise}
 use Rattle.search_promises.specs.Explored.{Fillable}
 use Rattle.search_tries.specs.Steps.{stepNumbered, NextStep}
 pub use Rattle.search_tries.specs.declared.Ahead.{Ahead}

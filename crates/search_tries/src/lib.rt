@@ -9,7 +9,7 @@ ghost use Rattle.program.specs.Program.{instrAt};
 ghost use Rattle.program.specs.Counts.{storesFrom};
 ghost use Rattle.machine.specs.Rules.{next, execute};
 ghost use Rattle.step.specs.declared.StepAnswer.the-variants.{Taken};
-ghost use Rattle.step.specs.Answers.{Settles, Executes, Moves};
+ghost use Rattle.step.specs.Inner.{Settles, Executes, Moves};
 ghost use Rattle.step.specs.Order.{execution, promise};
 ghost use Rattle.certify.specs.Answers.{Ready};
 ghost use Rattle.certify.proofs.Law.{Sound};

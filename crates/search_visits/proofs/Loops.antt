@@ -21,18 +21,18 @@ use Rattle.certify.specs.Answers as certified
 use Rattle.certify.proofs.Asked.{program-facts, machine-facts, ready-here}
 use Rattle.certify.proofs.Law.{Sound}
 use Rattle.encode_bytes.specs.Lists.{put}
-use Rattle.theory_sequences.proofs.Scan.{Scan}
+use Rattle.theory_sequences.specs.Scan.{Scan}
 use Rattle.step.specs.Step.{Step, accepted, rejected, step}
 use Rattle.step.specs.declared.StepAnswer.the-variants.{Taken, Refused}
 use Rattle.step.specs.declared.Moved.{Moved}
 use Rattle.step.specs.Order.{execution}
-use Rattle.step.specs.Answers.{Here, Remembers, Moves}
+use Rattle.step.specs.Inner.{Here, Remembers, Moves}
 use Rattle.step.proofs.Answered.{thread-taken, thread-refused}
 use Rattle.step.specs.Trace.{stepBytes}
 use Rattle.step.proofs.Bound.{potential, lowers}
 use Rattle.step.proofs.Kept.{kept}
-use Rattle.search_sequences.proofs.Keys.{keyPromise}
-use Rattle.search_table.specs.Table as table
+use Rattle.search_sequences.specs.Numbers.{keyPromise}
+use Rattle.search_table.specs.Table.{slotWith}
 use Rattle.search_arrivals.specs.declared.Ran.{Ran}
 use Rattle.search_arrivals.specs.declared.Ran.the-variants.{Going, Found, Out}
 use Rattle.search_arrivals.specs.Visits.{visiting, Reports, Visitable}
@@ -192,8 +192,8 @@ module _ {p : Program} {x : Machine} {d left : ℕ} {old : List ℕ} {m : Memory
     less-than-whole n = subst (λ (z : Machine). n < potential p z) is-restored
 
     -- what is written of y with its memory put back is written of x
-    pub whole-written : (slot n : ℕ) (t : List ℕ) {new : List ℕ} → new ≡ table.kept slot (restored m y) n t → new ≡ table.kept slot x n t
-    whole-written slot n t e = e ∙ ap (λ (z : Machine). table.kept slot z n t) is-restored
+    pub whole-written : (slot n : ℕ) (t : List ℕ) {new : List ℕ} → new ≡ slotWith slot (restored m y) n t → new ≡ slotWith slot x n t
+    whole-written slot n t e = e ∙ ap (λ (z : Machine). slotWith slot z n t) is-restored
 
   module _ {i : ℕ} {c : Code} {s : Thread} {w : Instr} {t : Attempts} {o : Machine} {area : List ℕ} {rest : ℕ} {k : Ahead} (U : AtStep p x d left old m i c s w t o area rest k) where
     pub step-ready : certified.Ready c m s

@@ -4,26 +4,26 @@ use mathlib.Core.Path.{_≡_, refl, sym, ap, subst, _∙_}
 use mathlib.Core.Logic.{_⊎_}
 use mathlib.Core.Bool.{true}
 use Prim.Native.Nat.{ℕ, _<_}
-use native.Mathlib.Omega.{arith}
 use lib.ListN.{set}
-use borrow.Author.Tests.{lt-ltb}
+use borrow.Author.Tests.{lt-ltb, eqb-false}
 use Rattle.program.specs.WellFormed.{programTest}
 use Rattle.program.proofs.Tests.{and-both, is-true}
 use Rattle.machine.specs.WellFormed.{machineTest, Formed}
 use Rattle.step.specs.Below.{Code, Program, Memory, Thread, Machine}
 use Rattle.step.specs.Step.{Step, Decision, rejected, accepted, ruleStep, step}
-use Rattle.step.specs.Answers.{Taken, Refused, Stepped, stepped, Moved, memoryAfter, Remembers, decision, Here, Moves}
+use Rattle.step.specs.Answers.{Taken, Refused, Stepped, stepped}
+use Rattle.step.specs.Inner.{Moved, memoryAfter, Remembers, decision, Here, Moves}
 use Rattle.step.proofs.Stepping.{step-formed, room-taken}
 use Rattle.step.proofs.Kept.{kept}
 
 module _ (x : Machine) (r : Stepped) where
   stepped-taken : (o : Decision) → r ≡ stepped x o → r .answer ≡ Taken → o ≡ accepted (r .machine)
-  stepped-taken (rejected n) e h = let q : r .answer ≡ Refused n = ap (λ (y : Stepped). y .answer) e in absurd (let z : _≡_ {A = ℕ} 0 1 = cc in omega arith)
+  stepped-taken (rejected n) e h = let q : r .answer ≡ Refused n = ap (λ (y : Stepped). y .answer) e in absurd (eqb-false 0 1 refl cc)
   stepped-taken (accepted y) e h = ap (λ (z : Stepped). accepted (z .machine)) (sym e)
 
   stepped-refused : (n : ℕ) (o : Decision) → r ≡ stepped x o → r .answer ≡ Refused n → o ≡ rejected n
   stepped-refused n (rejected k) e h = let q : r .answer ≡ Refused k = ap (λ (y : Stepped). y .answer) e in let z : k ≡ n = cc in ap rejected z
-  stepped-refused n (accepted y) e h = let q : r .answer ≡ Taken = ap (λ (z : Stepped). z .answer) e in absurd (let z : _≡_ {A = ℕ} 0 1 = cc in omega arith)
+  stepped-refused n (accepted y) e h = let q : r .answer ≡ Taken = ap (λ (z : Stepped). z .answer) e in absurd (eqb-false 0 1 refl cc)
 
 -- on a well-formed program and machine the rules decide
 by-rule : (p : Program) (x : Machine) → Formed p x → (k : Step) → step p x k ≡ ruleStep p x k

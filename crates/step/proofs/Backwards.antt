@@ -7,6 +7,7 @@ use Prim.Native.Nat.{ℕ, zero, suc, _<_}
 use native.Mathlib.Omega.{arith}
 use lib.Dec.{T, eqb, leb, ltb, eqb→eq, leb→le, ltb→lt}
 use lib.ListN.{set}
+use borrow.Author.Tests.{eqb-false}
 use Rattle.program.specs.Program.{instrAt, codeOf}
 use Rattle.program.specs.WellFormed.{programTest}
 use Rattle.program.proofs.Tests.{and-left, and-right}
@@ -41,10 +42,10 @@ pub data Did (p : Program) (x : Machine) : Step → Machine → Type 0 where
 
 pub check-passed : (b : Bool) (n : ℕ) (o : Decision) (x : Machine) → check b n o ≡ accepted x → T b × (o ≡ accepted x)
 check-passed true n o x e = (tt, e)
-check-passed false n o x e = absurd (let z : _≡_ {A = ℕ} 0 1 = cc in omega arith)
+check-passed false n o x e = absurd (eqb-false 0 1 refl cc)
 
 pub not-accepted : {n : ℕ} {x : Machine} → rejected n ≡ accepted x → ⊥
-not-accepted {n} {x} e = let z : _≡_ {A = ℕ} 0 1 = cc in omega arith
+not-accepted {n} {x} e = eqb-false 0 1 refl cc
 
 accepted-same : {x y : Machine} → accepted x ≡ accepted y → x ≡ y
 accepted-same {x} {y} e = cc

@@ -9,7 +9,7 @@ use native.Mathlib.Decide.{ℕ-discrete}
 use native.Mathlib.Omega.{arith}
 use lib.Dec.{T, eqb, leb, ltb, eqb→eq, ltb→lt}
 use lib.ListN.{length}
-use borrow.Author.Tests.{ltb-false}
+use borrow.Author.Tests.{ltb-false, eqb-false}
 use Rattle.theory_views.specs.Views.{viewAt, raiseAt}
 use Rattle.theory_views.proofs.Merging.{raise-reaches}
 use Rattle.program.specs.declared.Operand.the-variants.{Constant, OfRegister}
@@ -155,7 +155,7 @@ rule-later true n o e d = (tt, e)
 rule-later false n o e d = absurd (d (cc))
 
 not-done : {s : Thread} {n : ℕ} → next s ≡ refused n → ⊥
-not-done {s} {n} e = let z : _≡_ {A = ℕ} 0 1 = cc in omega arith
+not-done {s} {n} e = eqb-false 0 1 refl cc
 
 not-below : (pre coh t : ℕ) (s : Thread) → test (ltb pre t && ltb coh t) 28 (next s) ≡ refused 28 → (t ≤ pre) ⊎ (t ≤ coh)
 not-below pre coh t s h = go (ltb pre t) refl (ltb coh t) refl h

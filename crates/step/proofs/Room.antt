@@ -7,6 +7,7 @@ use Prim.Native.Nat.{ℕ, suc, _+_, _≤_, _<_}
 use native.Mathlib.Decide.{ℕ-discrete}
 use native.Mathlib.Omega.{arith}
 use lib.Dec.{T, eqb, leb, ltb, ltb→lt, not-T, nltb→le}
+use borrow.Author.Tests.{eqb-false}
 use Rattle.program.specs.Tests.{sumBelow}
 use Rattle.program.specs.Program.{instrAt, codeOf}
 use Rattle.program.specs.Counts.{storesFrom, stores}
@@ -139,7 +140,7 @@ refused-later false n m o e d = absurd (d (cc))
 
 pub not-settled : (p : Program) (x : Machine) (i : ℕ) (m : Memory) (s : Thread) (n : ℕ) → (29 ≡ n → ⊥) → settle p x i m s ≡ rejected n → ⊥
 unfolding settle
-not-settled p x i m s n d e = let q = refused-later (certified (codeOf p i) i m s) 29 n _ e d .1 in let z : _≡_ {A = ℕ} 0 1 = cc in omega arith
+not-settled p x i m s n d e = let q = refused-later (certified (codeOf p i) i m s) 29 n _ e d .1 in eqb-false 0 1 refl cc
 
 full : (b : Bool) (o : Decision) → check b 24 o ≡ rejected 24 → (o ≡ rejected 24 → ⊥) → T b → ⊥
 full true o e n t = n e

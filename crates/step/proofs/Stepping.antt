@@ -15,7 +15,7 @@ use Rattle.program.proofs.Tests.{is-true}
 use Rattle.machine.specs.State.{threadOf, append, with, withPromises}
 use Rattle.machine.specs.Rules.{execute, addPromise}
 use Rattle.machine.specs.WellFormed.{machineTest, Formed}
-use Rattle.machine.specs.Answers.{ruled, reach}
+use Rattle.machine.specs.Inner.{ruled, reach}
 use Rattle.machine.specs.declared.RuleAnswer.the-variants as rule
 use Rattle.machine.specs.declared.Ruled.{Ruled}
 use Rattle.machine.proofs.Cases.{reach-within, ruled-done, ruled-refused}
@@ -28,7 +28,8 @@ use Rattle.certify.proofs.Asked.{ready-here}
 use Rattle.certify.proofs.Trying.{ready-after}
 use Rattle.step.specs.Below.{Code, Program, Instr, Message, Memory, Thread, Machine}
 use Rattle.step.specs.Step.{Step, rejected, accepted, settle, settleRule, executeInstr, executeStep, promiseStep, kindStep, ruleStep, step}
-use Rattle.step.specs.Answers.{Taken, Refused, Stepped, stepped, Moved, promisedBy, memoryAfter, Remembers, placed, decision, Here, Settles, Executes, Promises, PromisesKept, Moves}
+use Rattle.step.specs.Answers.{Taken, Refused, Stepped, stepped}
+use Rattle.step.specs.Inner.{Moved, promisedBy, memoryAfter, Remembers, placed, decision, Here, Settles, Executes, Promises, PromisesKept, Moves}
 use Rattle.step.proofs.Backwards.{check-passed}
 
 -- the answer with which nothing moves

@@ -5,3 +5,4 @@ pub mod Outcome
 pub mod Trace
 pub mod Reached
 pub mod Answers
+pub mod Inner

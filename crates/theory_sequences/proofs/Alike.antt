@@ -6,7 +6,7 @@ use mathlib.Core.List.{List, [], _∷_}
 use mathlib.Core.Option.{Option, none, some}
 use Prim.Native.Nat.{ℕ, zero, suc}
 use Rattle.theory_sequences.specs.Stepping.{Stepping}
-use Rattle.theory_sequences.proofs.Scan.{Scan, found, andThen, under}
+use Rattle.theory_sequences.specs.Scan.{Scan, found, andThen, under}
 use Rattle.theory_sequences.proofs.Fewer.{each, hunt, and-then-same}
 
 -- M, with another way to take a step

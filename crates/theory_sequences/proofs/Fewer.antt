@@ -9,7 +9,8 @@ use Rattle.theory_sequences.specs.Stepping.{Stepping}
 use Rattle.theory_sequences.specs.Sequences.{Among, Ascending, run, wanted, begun, branches, upto}
 use Rattle.theory_sequences.specs.Lawful.{Lawful}
 use Rattle.theory_sequences.specs.Answer.{answer}
-use Rattle.theory_sequences.proofs.Scan.{Scan, going, found, out, scan, told, andThen, under, answer-told, scan-append, scan-map, wanted-step}
+use Rattle.theory_sequences.proofs.Scan.{answer-told, scan-append, scan-map, wanted-step}
+use Rattle.theory_sequences.specs.Scan.{Scan, going, found, out, scan, told, andThen, under}
 
 module _ (M : Stepping) where
   -- ---- the search

@@ -6,6 +6,7 @@ use mathlib.Core.Option.{Option, none, some}
 use Prim.Native.Nat.{ℕ, zero, suc, _≤_}
 use native.Mathlib.Omega.{arith}
 use lib.ListN.{length}
+use borrow.Author.Tests.{eqb-false}
 use Rattle.theory_sequences.specs.Stepping.{Stepping}
 use Rattle.theory_sequences.specs.Sequences.{Among, Ascending, Before, run, Accepted, begun, branches, upto, Listed}
 use Rattle.theory_sequences.specs.Lawful.{Lawful}
@@ -21,7 +22,7 @@ module _ (M : Stepping) where
     where
       go : (o : Option (M .State)) → M .next s k ≡ o → elim o [ none ↦ none | some t ↦ run M t q ] ≡ some u
           → (t : M .State) × (M .next s k ≡ some t) × (run M t q ≡ some u)
-      go none e h = absurd (let z : _≡_ {A = ℕ} 0 1 = cc in omega arith)
+      go none e h = absurd (eqb-false 0 1 refl cc)
       go (some t) e h = (t, e, h)
 
   -- a step by k and then a run of q is a run of k and then q

@@ -7,7 +7,7 @@ use Prim.Native.Nat.{ℕ, zero, suc, _+_, _-_, _≤_, _<_}
 use native.Mathlib.Omega.{arith}
 use lib.Dec.{ltb}
 use lib.ListN.{length, getD}
-use borrow.Author.Tests.{lt-ltb, le-ltb, ltb-true, ltb-false}
+use borrow.Author.Tests.{lt-ltb, le-ltb, ltb-true, ltb-false, eqb-false}
 use Rattle.theory_sequences.specs.Stepping.{Stepping}
 use Rattle.theory_sequences.specs.Sequences.{wanted, upto, Listed}
 use Rattle.theory_sequences.specs.Lawful.{Lawful}
@@ -72,21 +72,21 @@ module _ {A : Type 0} (wanted : List A → Bool) where
         allowed-if = λ j z u v. (n, getD l i [], e);
         allowed-then = λ m q z. first m n i q (cc) (cc) d x y w f;
         forbidden-if = λ z u. absurd (true≢false (sym w ∙ z (getD l i []) (among-at l i [] x)));
-        forbidden-then = λ m z. absurd (let c : _≡_ {A = ℕ} 0 1 = cc in omega arith);
-        unfinished-then = λ m z. absurd (let c : _≡_ {A = ℕ} 0 1 = cc in omega arith);
+        forbidden-then = λ m z. absurd (eqb-false 0 1 refl cc);
+        unfinished-then = λ m z. absurd (eqb-false 0 1 refl cc);
       }
       go o (all n e d x f) = record {
         allowed-if = λ j z u v. absurd (true≢false (sym v ∙ f (getD l j []) (among-at l j [] u)));
-        allowed-then = λ m q z. absurd (let c : _≡_ {A = ℕ} 0 1 = cc in omega arith);
+        allowed-then = λ m q z. absurd (eqb-false 0 1 refl cc);
         forbidden-if = λ z u. (n, e);
         forbidden-then = λ m z. let c : m ≡ n = cc in (omega arith, omega arith, f);
-        unfinished-then = λ m z. absurd (let c : _≡_ {A = ℕ} 0 1 = cc in omega arith);
+        unfinished-then = λ m z. absurd (eqb-false 0 1 refl cc);
       }
       go o (cut e d f) = record {
         allowed-if = λ j z u v. absurd (true≢false (sym v ∙ f j (omega arith)));
-        allowed-then = λ m q z. absurd (let c : _≡_ {A = ℕ} 0 1 = cc in omega arith);
+        allowed-then = λ m q z. absurd (eqb-false 0 1 refl cc);
         forbidden-if = λ z u. absurd (omega arith);
-        forbidden-then = λ m z. absurd (let c : _≡_ {A = ℕ} 0 1 = cc in omega arith);
+        forbidden-then = λ m z. absurd (eqb-false 0 1 refl cc);
         unfinished-then = λ m z. cc;
       }
 
@@ -115,13 +115,13 @@ module _ {A : Type 0} (wanted : List A → Bool) where
         let F = D .allowed-then n q refl in
         let w = E .allowed-if (n - 1) (omega (arith, F .from-one, F .in-budget)) (omega (arith, F .from-one, F .in-list)) (hit n q F) in
         let e = w .2 in
-        let z : _≡_ {A = ℕ} 0 1 = cc in omega arith
+        eqb-false 0 1 refl cc
 
     not-closed : (n m : ℕ) → Demand wanted l b (forbidden n) → Demand wanted l b (unfinished m) → ⊥
     not-closed n m D E =
         let F = D .forbidden-then n refl in
         let e = E .forbidden-if (F .2) (F .1) .1 in
-        let z : _≡_ {A = ℕ} 0 1 = cc in omega arith
+        eqb-false 0 1 refl cc
 
     -- demand 3 leaves one answer only
     pub one-answer : (o o' : Answer A) → Demand wanted l b o → Demand wanted l b o' → o ≡ o'
@@ -157,12 +157,12 @@ module _ {A : Type 0} (wanted : List A → Bool) where
   -- a larger budget never changes `allowed`
   pub more-budget-allowed : (l : List (List A)) (b c n : ℕ) (q : List A) → b ≤ c → answer wanted l b ≡ allowed n q → answer wanted l c ≡ allowed n q
   unfolding answer
-  more-budget-allowed l b c n q h e = ⊎-elim (λ i. absurd (let z : _≡_ {A = ℕ} 0 1 = cc in omega arith)) (λ i. i ∙ e) (more b c 0 l h)
+  more-budget-allowed l b c n q h e = ⊎-elim (λ i. absurd (eqb-false 0 1 refl cc)) (λ i. i ∙ e) (more b c 0 l h)
 
   -- a larger budget never changes `forbidden`
   pub more-budget-forbidden : (l : List (List A)) (b c n : ℕ) → b ≤ c → answer wanted l b ≡ forbidden n → answer wanted l c ≡ forbidden n
   unfolding answer
-  more-budget-forbidden l b c n h e = ⊎-elim (λ i. absurd (let z : _≡_ {A = ℕ} 0 1 = cc in omega arith)) (λ i. i ∙ e) (more b c 0 l h)
+  more-budget-forbidden l b c n h e = ⊎-elim (λ i. absurd (eqb-false 0 1 refl cc)) (λ i. i ∙ e) (more b c 0 l h)
 
 -- demand 3, of the list of all accepted sequences, whichever way it was come by
 pub demand-3 : (M : Stepping) (L : Lawful M) (n : ℕ) (s : M .State) → L .bound s ≤ n → (b : ℕ) (l : List (List (M .Step))) → Listed M s l

@@ -1,4 +1,5 @@
--- What code computes: a search through a list of sequences that counts its budget down, and its laws.
+-- The laws of a search through a list of sequences that counts its budget down.
+-- Assumes nothing.
 use mathlib.Core.Path.{_≡_, refl, ap, sym, _∙_}
 use mathlib.Core.Bool.{Bool, true, false}
 use mathlib.Core.Logic.{inl, inr}
@@ -7,51 +8,16 @@ use mathlib.Core.Option.{none, some}
 use Prim.Native.Nat.{ℕ, zero, suc, _+_, _-_, _≤_, _<_}
 use native.Mathlib.Omega.{arith}
 use lib.ListN.{length}
-use borrow.Author.Tests.{lt-ltb, le-ltb}
+use borrow.Author.Tests.{lt-ltb, le-ltb, eqb-false}
 use Rattle.theory_sequences.specs.Stepping.{Stepping}
 use Rattle.theory_sequences.specs.Sequences.{Among, run, wanted, begun, branches, upto}
 use Rattle.theory_sequences.specs.Lawful.{Lawful}
 use Rattle.theory_sequences.specs.Demand.{NoneWanted}
-use Rattle.theory_sequences.specs.Answer.{Answer, allowed, forbidden, unfinished, visit, answer}
+use Rattle.theory_sequences.specs.Scan.{Scan, going, found, out, scan, told, andThen, under, leftOf}
+use Rattle.theory_sequences.specs.Answer.{allowed, forbidden, visit, answer}
 use Rattle.theory_sequences.proofs.Listed.{run-step, upto-sound, short, sequences-step}
 
--- how far a search has come: on, with so much of the budget left; at a wanted sequence, with so much left; or at a sequence with nothing left
-pub data Scan (A : Type 0) : Type 0 where
-  going : ℕ → Scan A
-  found : ℕ → List A → Scan A
-  out : Scan A
-
 module _ {A : Type 0} where
-  -- each sequence costs one, and the first that g wants ends the search
-  unfoldable pub scan : (List A → Bool) → List (List A) → ℕ → Scan A
-  scan g [] b = going b
-  scan g (q ∷ l) zero = out
-  scan g (q ∷ l) (suc b) = elim (g q) [ true ↦ found b q | false ↦ scan g l b ]
-
-  -- the answer of a search that began with budget b
-  abbrev pub told : ℕ → Scan A → Answer A
-  told b (going c) = forbidden (b - c)
-  told b (found c q) = allowed (b - c) q
-  told b out = unfinished b
-
-  -- go on with what is left, unless the search has ended
-  abbrev pub andThen : Scan A → (ℕ → Scan A) → Scan A
-  andThen (going b) f = f b
-  andThen (found b q) f = found b q
-  andThen out f = out
-
-  -- the same search below a first step k
-  abbrev pub under : A → Scan A → Scan A
-  under k (going b) = going b
-  under k (found b q) = found b (k ∷ q)
-  under k out = out
-
-  -- what is left of the budget
-  abbrev pub leftOf : Scan A → ℕ
-  leftOf (going c) = c
-  leftOf (found c q) = c
-  leftOf out = 0
-
   told-visit : (g : List A → Bool) (l : List (List A)) (b c k : ℕ) → b ≡ k + c → told b (scan g l c) ≡ visit g b k l
   unfolding scan visit
   told-visit g [] b c k e = ap forbidden (omega arith)
@@ -95,8 +61,8 @@ module _ {A : Type 0} where
   -- what is found is wanted, and stands in the list
   pub scan-found : (g : List A → Bool) (l : List (List A)) (b c : ℕ) (q : List A) → scan g l b ≡ found c q → (g q ≡ true) × Among q l
   unfolding scan
-  scan-found g [] b c q e = absurd (let z : _≡_ {A = ℕ} 0 1 = cc in omega arith)
-  scan-found g (p ∷ l) zero c q e = absurd (let z : _≡_ {A = ℕ} 0 1 = cc in omega arith)
+  scan-found g [] b c q e = absurd (eqb-false 0 1 refl cc)
+  scan-found g (p ∷ l) zero c q e = absurd (eqb-false 0 1 refl cc)
   scan-found g (p ∷ l) (suc b) c q e = go (g p) refl e (λ i. scan-found g l b c q i)
     where
       go : (t : Bool) → g p ≡ t → elim t [ true ↦ found b p | false ↦ scan g l b ] ≡ found c q → (scan g l b ≡ found c q → (g q ≡ true) × Among q l)
@@ -111,7 +77,7 @@ module _ {A : Type 0} where
   scan-left g (q ∷ l) zero = omega arith
   scan-left g (q ∷ l) (suc b) = go (g q) (scan-left g l b)
     where
-      go : (t : Bool) → leftOf (scan g l b) ≤ b → leftOf (elim t [ true ↦ found b q | false ↦ scan g l b ]) ≤ suc b
+      go : (t : Bool) → leftOf (scan g l b) ≤ b → leftOf {A = A} (elim t [ true ↦ found b q | false ↦ scan g l b ]) ≤ suc b
       go true h = omega arith
       go false h = omega arith
 
@@ -133,7 +99,7 @@ module _ {A : Type 0} (g : List A → Bool) where
   pub scan-went : (l : List (List A)) (b c : ℕ) → scan g l b ≡ going c → NoneWanted g l × (c + length l ≡ b)
   unfolding scan
   scan-went [] b c e = (λ r i. absurd i, (let same : b ≡ c = cc in omega arith))
-  scan-went (q ∷ l) zero c e = absurd (let z : _≡_ {A = ℕ} 0 1 = cc in omega arith)
+  scan-went (q ∷ l) zero c e = absurd (eqb-false 0 1 refl cc)
   scan-went (q ∷ l) (suc b) c e = go (g q) refl e (λ i. scan-went l b c i)
     where
       none-of : g q ≡ false → NoneWanted g l → NoneWanted g (q ∷ l)
@@ -142,7 +108,7 @@ module _ {A : Type 0} (g : List A → Bool) where
 
       go : (t : Bool) → g q ≡ t → _≡_ {A = Scan A} (elim t [ true ↦ found b q | false ↦ scan g l b ]) (going c) → (scan g l b ≡ going c → NoneWanted g l × (c + length l ≡ b))
           → NoneWanted g (q ∷ l) × (c + length (q ∷ l) ≡ suc b)
-      go true d i rec = absurd (let z : _≡_ {A = ℕ} 0 1 = cc in omega arith)
+      go true d i rec = absurd (eqb-false 0 1 refl cc)
       go false d i rec = let r = rec i in let n = r .1 in (none-of d (r .0), omega arith)
 
 -- the sequences that begin with steps of two lists are those of the first and then those of the second

@@ -1,5 +1,6 @@
 pub mod Stepping
 pub mod Sequences
 pub mod Answer
+pub mod Scan
 pub mod Demand
 pub mod Lawful

@@ -1,9 +1,9 @@
 -- The answer of the program's reader, read backwards, and the replay that it leads to.
 -- Assumes nothing.
-use mathlib.Core.Path.{_≡_, sym, ap, ap₂, _∙_}
+use mathlib.Core.Path.{_≡_, sym, ap, ap₂, _∙_, refl}
 use mathlib.Core.List.{List}
 use Prim.Native.Nat.{ℕ}
-use native.Mathlib.Omega.{arith}
+use borrow.Author.Tests.{eqb-false}
 use Rattle.program.specs.declared.FileRead.{FileRead}
 use Rattle.program.specs.declared.ReadAnswer.the-variants.{Good, Refused}
 use Rattle.program.specs.Program.{noProgram}
@@ -22,7 +22,7 @@ module _ (f : List ℕ) (r : FileRead) (e : r ≡ fileRead (readFile f)) where
   read-good h = go (readFile f) e
     where
       go : (a : FileAnswer) → r ≡ fileRead a → a ≡ program (r .program)
-      go (refused n place) q = let z : r .answer ≡ Refused n place = ap (λ (y : FileRead). y .answer) q in absurd (let w : _≡_ {A = ℕ} 0 1 = cc in omega arith)
+      go (refused n place) q = let z : r .answer ≡ Refused n place = ap (λ (y : FileRead). y .answer) q in absurd (eqb-false 0 1 refl cc)
       go (program p) q = ap (λ (y : FileRead). program (y .program)) (sym q)
 
   pub good-formed : r .answer ≡ Good → Formed (r .program) fresh
@@ -37,7 +37,7 @@ module _ (f : List ℕ) (r : FileRead) (e : r ≡ fileRead (readFile f)) where
           let i : k ≡ n = cc in
           let j : at ≡ place = cc in
           (ap₂ refused i j, ap (λ (y : FileRead). y .program) q)
-      go (program p) q = let z : r .answer ≡ Good = ap (λ (y : FileRead). y .answer) q in absurd (let w : _≡_ {A = ℕ} 0 1 = cc in omega arith)
+      go (program p) q = let z : r .answer ≡ Good = ap (λ (y : FileRead). y .answer) q in absurd (eqb-false 0 1 refl cc)
 
   -- ---- the replay, by the reader's answer
   pub good-replay : (t : List ℕ) (a : Replayed) (x : Machine) → x ≡ fresh → a ≡ replayed (r .program) (replayFrom (r .program) 0 x t) → r .answer ≡ Good → a ≡ replay f t

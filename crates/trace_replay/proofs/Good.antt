@@ -8,7 +8,7 @@ use Prim.Native.Nat.{ℕ, suc, _+_}
 use native.Mathlib.Omega.{arith}
 use lib.Dec.{eqb}
 use lib.ListN.{length}
-use borrow.Author.Tests.{eqb-true}
+use borrow.Author.Tests.{eqb-true, eqb-false}
 use Rattle.program.specs.declared.Program.{Program}
 use Rattle.program.specs.File.{FileAnswer, program, readFile}
 use Rattle.machine.specs.declared.Machine.{Machine}
@@ -22,7 +22,7 @@ use Rattle.trace_replay.specs.InTurn.{InTurn, no-step, a-step, TraceOf}
 
 -- ---- what ends is not broken off
 pub not-broken : {n m c : ℕ} {x y : Machine} → broken c n x ≡ ended m y → ⊥
-not-broken {n} {m} {c} {x} {y} e = let z : _≡_ {A = ℕ} 0 1 = cc in omega arith
+not-broken {n} {m} {c} {x} {y} e = eqb-false 0 1 refl cc
 
 ended-steps : {n m : ℕ} {x y : Machine} → ended n x ≡ ended m y → n ≡ m
 ended-steps {n} {m} {x} {y} e = cc

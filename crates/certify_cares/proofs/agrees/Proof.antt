@@ -1,9 +1,7 @@
 -- `cares::agrees` meets its contract: one case for each return.
 -- Assumes nothing.
-use mathlib.Core.Path.{_≡_}
-use Prim.Native.Nat.{ℕ}
-use native.Mathlib.Omega.{arith}
-use borrow.Author.Tests.{not-true, not-false}
+use mathlib.Core.Path.{refl}
+use borrow.Author.Tests.{not-true, not-false, eqb-false}
 use Rattle.certify_cares.specs.Cares.{same, alike}
 use borrow.Author.Needs.{needs}
 use Rattle.certify_cares.proofs.agrees.Statement.{statement}
@@ -16,7 +14,7 @@ allows-requires : tie.Need-allows-requires
 allows-requires c κs = search needs
 
 returns-2 : tie.Need-returns-2
-returns-2 c = λ e. absurd (let z : _≡_ {A = ℕ} 0 1 = cc in omega arith)
+returns-2 c = λ e. absurd (eqb-false 0 1 refl cc)
 
 returns-3 : tie.Need-returns-3
 returns-3 c = λ e. alike (c .before .before .allows .ensures (not-false _ (c .before .if2 .left))) (λ m. c .if3 .taken)

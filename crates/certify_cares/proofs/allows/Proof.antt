@@ -1,7 +1,7 @@
 -- `cares::allows` meets its contract: one case for each kind of code.
 -- Assumes nothing.
-use mathlib.Core.Path.{_≡_, sym, subst}
-use Prim.Native.Nat.{ℕ, _+_}
+use mathlib.Core.Path.{sym, subst, refl}
+use Prim.Native.Nat.{_+_}
 use native.Mathlib.Omega.{arith}
 use lib.Dec.{T, leb→le, ltb→lt}
 use borrow.Author.Tests.{eqb-false, not-true}
@@ -14,7 +14,7 @@ returns : tie.Need-returns
 returns c = λ e. free (c .if1 .taken)
 
 returns-2 : tie.Need-returns-2
-returns-2 c = λ e. absurd (let z : _≡_ {A = ℕ} 0 1 = cc in omega arith)
+returns-2 c = λ e. absurd (eqb-false 0 1 refl cc)
 
 add-result : tie.Need-add-result
 add-result c = search needs

@@ -2,7 +2,7 @@
 -- Assumes nothing.
 use mathlib.Core.Path.{sym, ap, subst, _∙_}
 use native.Mathlib.Omega.{arith}
-use Rattle.program.proofs.Counts.{storesOf}
+use Rattle.program.specs.Inner.{storesOf}
 use Rattle.machine.specs.Rules.{address}
 use Rattle.certify_cares.specs.Cares.{Marked}
 use Rattle.certify_lost.specs.Lost.{InRange}

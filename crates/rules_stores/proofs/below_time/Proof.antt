@@ -1,7 +1,7 @@
 -- `stores::below_time` meets its contract: one case for each arm.
 -- Assumes nothing.
 use borrow.Author.Tests.{lt-ltb, le-ltb}
-use Rattle.machine.specs.Answers.{belowTime}
+use Rattle.machine.specs.Inner.{belowTime}
 use borrow.Author.Needs.{needs}
 use Rattle.rules_stores.proofs.below_time.Statement.{statement}
 use Rattle.rules_stores.proofs.below_time.Tie as tie

@@ -1,8 +1,7 @@
 -- `certify::vain::in_vain` meets its contract.
 -- Assumes nothing.
-use mathlib.Core.Path.{_≡_}
-use Prim.Native.Nat.{ℕ}
-use native.Mathlib.Omega.{arith}
+use mathlib.Core.Path.{refl}
+use borrow.Author.Tests.{eqb-false}
 use Rattle.certify.proofs.Tries.{load-vain}
 use borrow.Author.Needs.{needs}
 use Rattle.certify.proofs.vain.in_vain.Statement.{statement}
@@ -39,16 +38,16 @@ returns : tie.Need-returns
 returns c = λ e. load-vain _ _ _ _ _ _ _ (c .before .before .before .before .before .x .given .1) _ (rw (c .before .before .before .value-of .ensures, c .before .before .value-of2 .ensures) at (c .before .address-of-sum .ensures .0)) _ _ (c .doubled .ensures e)
 
 returns-2 : tie.Need-returns-2
-returns-2 c = λ e. absurd (let z : _≡_ {A = ℕ} 0 1 = cc in omega arith)
+returns-2 c = λ e. absurd (eqb-false 0 1 refl cc)
 
 returns-3 : tie.Need-returns-3
-returns-3 c = λ e. absurd (let z : _≡_ {A = ℕ} 0 1 = cc in omega arith)
+returns-3 c = λ e. absurd (eqb-false 0 1 refl cc)
 
 returns-4 : tie.Need-returns-4
-returns-4 c = λ e. absurd (let z : _≡_ {A = ℕ} 0 1 = cc in omega arith)
+returns-4 c = λ e. absurd (eqb-false 0 1 refl cc)
 
 returns-5 : tie.Need-returns-5
-returns-5 c = λ e. absurd (let z : _≡_ {A = ℕ} 0 1 = cc in omega arith)
+returns-5 c = λ e. absurd (eqb-false 0 1 refl cc)
 
 pub in-vain-spec : {M : Type 1} → statement M
 in-vain-spec =

@@ -3,7 +3,7 @@
 use mathlib.Core.Path.{ap, subst}
 use lib.Dec.{T}
 use borrow.Author.Needs.{needs}
-use Rattle.program.proofs.Counts.{storesOf}
+use Rattle.program.specs.Inner.{storesOf}
 use borrow.Author.Needs.{needs}
 use Rattle.certify_lost.proofs.ahead.is_store.Statement.{statement}
 use Rattle.certify_lost.proofs.ahead.is_store.Tie as tie

@@ -1,11 +1,12 @@
--- The answer of a rule, for the code: `Done` or the refusal number, beside the thread's state; and what a caller must know before it asks.
+-- What the functions of the rules promise each other: the answer of a rule as the code has it, a store in parts, the first promise of a set.
 -- Assumes nothing.
-use mathlib.Core.Bool.{Bool, _&&_}
-use Prim.Native.Nat.{ℕ, max, _+_}
+use mathlib.Core.Path.{_≡_}
+use mathlib.Core.Bool.{Bool, true, false, _&&_}
+use Prim.Native.Nat.{ℕ, max, _+_, _<_, _≤_}
 use lib.Dec.{ltb}
 use Rattle.theory_views.specs.Views.{viewAt}
 use Rattle.machine.specs.Below.{Operand, StoreMode, Instr, Compute, Load, Store, Branch, Fence}
-use Rattle.machine.specs.State.{Message, Memory, Thread, append, raiseCoherence, withForward, withViews}
+use Rattle.machine.specs.State.{Message, Memory, Thread, has, append, raiseCoherence, withForward, withViews}
 use Rattle.machine.specs.Rules.{Executed, refused, next, test, valueOf, address, advance, storePre, storeViews, execute, addPromise}
 pub use Rattle.machine.specs.declared.RuleAnswer.{RuleAnswer}
 pub use Rattle.machine.specs.declared.RuleAnswer.the-variants.{Done, Refused}
@@ -46,3 +47,10 @@ unfoldable pub ownStore : StoreMode → Operand → Operand → Memory → ℕ �
 ownStore k a d m i s =
     let m' = append m (storeMessage i a d s) in
     execute (Store k a d) m' (m' .count) (addPromise m' s)
+
+-- ---- promises
+-- t is in the set, and no time before it is
+pub record First (p t : ℕ) : Type 0 where
+  pub member : has p t ≡ true
+  pub within : t ≤ 16
+  pub before : (u : ℕ) → u < t → has p u ≡ false
