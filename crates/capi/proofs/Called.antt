@@ -13,7 +13,7 @@ use Rattle.machine.specs.declared.Machine.{Machine}
 use Rattle.search.specs.declared.Answer.{Answer}
 use Rattle.program.specs.File.{readFile}
 use Rattle.search.specs.Answers.{areaOn, tableOn, Searched, SearchedWithin}
-use Rattle.encode_bytes.specs.Lists.{put}
+use Rattle.encode_bytes.specs.Inner.{put}
 use Rattle.encode_program.specs.Value.{programOf}
 use Rattle.encode_machine.specs.Value.{machineOf}
 use Rattle.encode_answers.specs.Value.{searchedBytes, withinBytes}

@@ -11,7 +11,8 @@ use Rattle.program.specs.WellFormed.{programTest}
 use Rattle.program.proofs.Tests.{and-left, and-right}
 use Rattle.program.proofs.Formed.{ProgramOk, program-ok}
 use Rattle.machine.specs.State.{threadOf}
-use Rattle.machine.specs.WellFormed.{machineTest, Formed}
+use Rattle.machine.specs.WellFormed.{machineTest}
+use Rattle.machine.specs.Inner.{Formed}
 use Rattle.machine.proofs.Formed.{MachineOk, machine-iff}
 use Rattle.certify.specs.Below.{Code, Program, Thread, Machine}
 use Rattle.certify.specs.Certify.{certified}

@@ -14,8 +14,8 @@ use lib.Seq.{getD-set-same}
 use Rattle.theory_views.specs.Views.{viewAt}
 use Rattle.program.proofs.Tests.{and-left, and-right, and-both, eq→eqb}
 use Rattle.machine.specs.State.{noMessage, has, without}
-use Rattle.machine.specs.Rules.{next, valueOf, viewOf, address, storePre, storeDone, execute}
-use Rattle.machine.specs.Inner.{ruled, belowTime, storeMessage}
+use Rattle.machine.specs.Rules.{next, valueOf, viewOf, address, storePre, storeDone, execute, storeMessage}
+use Rattle.machine.specs.Inner.{ruled, belowTime}
 use Rattle.machine.specs.declared.RuleAnswer.the-variants.{Done, Refused}
 use Rattle.machine.specs.declared.Ruled.{Ruled}
 use Rattle.machine.proofs.Sets.{has-positive, has-time, ones-without}

@@ -14,8 +14,8 @@ use borrow.Author.Tests.{not-true}
 use Rattle.program.specs.Counts.{storesFrom}
 use Rattle.program.proofs.Counts.{stores-fall}
 use Rattle.machine.specs.State.{append, has}
-use Rattle.machine.specs.Rules.{next, valueOf, address, execute, addPromise}
-use Rattle.machine.specs.Inner.{ruled, storeMessage, ownStore}
+use Rattle.machine.specs.Rules.{next, valueOf, address, execute, addPromise, storeMessage}
+use Rattle.machine.specs.Inner.{ruled, ownStore}
 use Rattle.machine.specs.declared.RuleAnswer.the-variants.{Done, Refused}
 use Rattle.machine.specs.declared.Ruled.{Ruled}
 use Rattle.machine.proofs.Cases.{ruled-done, ruled-refused}

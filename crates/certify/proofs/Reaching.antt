@@ -11,8 +11,8 @@ use Rattle.program.specs.Program.{instrAt}
 use Rattle.program.proofs.Counts.{there}
 use Rattle.program.proofs.Tests.{eq→eqb, is-true, is-false}
 use Rattle.machine.specs.State.{append, has}
-use Rattle.machine.specs.Rules.{next, valueOf, address, execute, addPromise}
-use Rattle.machine.specs.Inner.{ruled, storeMessage, ownStore}
+use Rattle.machine.specs.Rules.{next, valueOf, address, execute, addPromise, storeMessage}
+use Rattle.machine.specs.Inner.{ruled, ownStore}
 use Rattle.machine.specs.declared.RuleAnswer.the-variants.{Done}
 use Rattle.machine.specs.declared.Ruled.{Ruled}
 use Rattle.machine.proofs.Cases.{ruled-done}

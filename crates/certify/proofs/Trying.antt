@@ -9,8 +9,8 @@ use lib.Dec.{T, eqb, leb, ltb, lt→ltb, le→leb}
 use Rattle.theory_views.specs.Views.{viewAt}
 use Rattle.program.proofs.Tests.{and-both, eq→eqb, is-true, below-at}
 use Rattle.machine.specs.State.{messageAt, append}
-use Rattle.machine.specs.Rules.{next, valueOf, address, newer, noneNewer, execute, addPromise}
-use Rattle.machine.specs.Inner.{reach, storeMessage, ownStore}
+use Rattle.machine.specs.Rules.{next, valueOf, address, newer, noneNewer, execute, addPromise, storeMessage}
+use Rattle.machine.specs.Inner.{reach, ownStore}
 use Rattle.machine.proofs.Sets.{has-positive, with-small, without-small, grown-small}
 use Rattle.machine.proofs.Cases.{reach-within}
 use Rattle.machine.proofs.Effects.{loadLocation, loadPreView, Effect, computed, loaded, stored, branched, fenced, effect, effect-time, read-there}

@@ -15,7 +15,7 @@ pub use checked::certify;
 ghost use mathlib.Core.Path.{_≡_};
 ghost use mathlib.Core.Bool.{true, false};
 ghost use Prim.Native.Nat.{ℕ};
-ghost use Rattle.machine.specs.Inner.{storeMessage};
+ghost use Rattle.machine.specs.Rules.{storeMessage};
 ghost use Rattle.certify.specs.Certify.{certified};
 ghost use Rattle.certify.specs.Asks.{Unmet, Seeks, meeting};
 ghost use Rattle.certify.specs.Answers.{Ready};

@@ -2,7 +2,7 @@
 ghost use mathlib.Core.Path.{_≡_};
 ghost use Prim.Native.Nat.{_≤_};
 ghost use lib.ListN.{length};
-ghost use Rattle.encode_bytes.specs.Lists.{put};
+ghost use Rattle.encode_bytes.specs.Inner.{put};
 ghost use Rattle.encode_answers.specs.Value.{readBytes, steppedBytes, certifiedBytes, replayedBytes, foundBytes, searchedBytes, withinBytes};
 use certify::Certified;
 use encode_bytes::put_four;

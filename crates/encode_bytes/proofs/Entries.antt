@@ -7,7 +7,8 @@ use native.Mathlib.Nat.{mul-zero, mul-suc, not-suc-le-zero, le-of-suc-le-suc}
 use native.Mathlib.Omega.{arith}
 use lib.ListN.{length, getD, drop, length-append, length-drop, drop-of-length-le}
 use lib.Seq.{drop-cons, drop-at, drop-drop, getD-drop}
-use Rattle.encode_bytes.specs.Lists.{joined, entries, AllBytes}
+use Rattle.encode_bytes.specs.Lists.{joined, entries}
+use Rattle.encode_bytes.specs.Inner.{AllBytes}
 
 -- ---- how long entries are together
 pub joined-length : (f : ℕ → List ℕ) (w : ℕ) → ((j : ℕ) → length (f j) ≡ w) → (k n : ℕ) → length (joined f k n) ≡ w * n

@@ -7,7 +7,8 @@ use Prim.Native.Nat.{ℕ, suc, _+_, _-_, _≤_, _<_}
 use native.Mathlib.Omega.{arith}
 use lib.ListN.{length, getD, take, drop, set, length-append, length-take, length-drop, take-append-drop, List·getD-append}
 use lib.Seq.{sets, sets-eq, set-split, length-take-le, take-at, drop-at, drop-drop, getD-take, getD-drop, getD-append-add}
-use Rattle.encode_bytes.specs.Lists.{put, joined}
+use Rattle.encode_bytes.specs.Lists.{joined}
+use Rattle.encode_bytes.specs.Inner.{put}
 
 pub put-none : (i : ℕ) (a : List ℕ) → put i [] a ≡ a
 unfolding put

@@ -6,7 +6,8 @@ use Prim.Native.Nat.{ℕ, _+_, _*_, _/_, _%_, _<_}
 use native.Mathlib.Omega.{arith}
 use lib.ListN.{getD, drop}
 use lib.Seq.{getD-drop}
-use Rattle.encode_bytes.specs.Numbers.{word32, word32From, word64, word64From}
+use Rattle.encode_bytes.specs.Numbers.{word32, word64}
+use Rattle.encode_bytes.specs.Inner.{word32From, word64From}
 
 two : (n : ℕ) → n % 65536 ≡ n % 256 + 256 * (n / 256 % 256)
 two n = omega arith

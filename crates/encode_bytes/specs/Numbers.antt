@@ -2,7 +2,7 @@
 -- Assumes nothing.
 use mathlib.Core.List.{List, [], _∷_, _++_}
 use Prim.Native.Nat.{ℕ, _+_, _*_, _/_, _%_}
-use lib.ListN.{getD, drop}
+use lib.ListN.{getD}
 
 -- a number of two bytes
 abbrev pub word16 : ℕ → List ℕ
@@ -15,12 +15,6 @@ word16From b = getD b 0 0 + 256 * getD b 1 0
 abbrev pub word32 : ℕ → List ℕ
 word32 n = n % 256 ∷ n / 256 % 256 ∷ n / 65536 % 256 ∷ n / 16777216 % 256 ∷ []
 
-abbrev pub word32From : List ℕ → ℕ
-word32From b = getD b 0 0 + 256 * getD b 1 0 + 65536 * getD b 2 0 + 16777216 * getD b 3 0
-
 -- the low 64 bits of a number
 abbrev pub word64 : ℕ → List ℕ
 word64 n = word32 n ++ word32 (n / 4294967296)
-
-abbrev pub word64From : List ℕ → ℕ
-word64From b = word32From b + 4294967296 * word32From (drop 4 b)

@@ -3,8 +3,8 @@ ghost use mathlib.Core.Path.{_≡_};
 ghost use mathlib.Core.List.{[], _∷_};
 ghost use Prim.Native.Nat.{_+_, _*_, _≤_};
 ghost use lib.ListN.{length, drop};
-ghost use Rattle.encode_bytes.specs.Lists.{put};
-ghost use Rattle.encode_bytes.specs.Numbers.{word16, word32, word64, word64From};
+ghost use Rattle.encode_bytes.specs.Inner.{put, word64From};
+ghost use Rattle.encode_bytes.specs.Numbers.{word16, word32, word64};
 
 pub fn put_one(area: &mut [u8], at: usize, a: u8)
     requires { ⌜ at + 1 ≤ length (now area) ⌝ }

@@ -12,7 +12,8 @@ use Rattle.machine.specs.State.{noMessage, freshRegister, freshForward, freshTh
 use Rattle.machine.specs.declared.Memory.{Memory}
 use Rattle.machine.specs.declared.Thread.{Thread}
 use Rattle.machine.specs.declared.Machine.{Machine}
-use Rattle.encode_bytes.specs.Lists.{joined, entries, AllBytes}
+use Rattle.encode_bytes.specs.Lists.{joined, entries}
+use Rattle.encode_bytes.specs.Inner.{AllBytes}
 use Rattle.encode_bytes.specs.Numbers.{word16, word16From}
 use Rattle.encode_machine.specs.Value.{messageBytes, memoryBytes, registerBytes, forwardBytes, viewsBytes, threadBytes, machineBytes, messageFrom, memoryFrom, registerFrom, forwardFrom, viewsFrom, threadFrom, machineOf}
 use Rattle.encode_machine.specs.Sized.{SizedThread, SizedMachine}

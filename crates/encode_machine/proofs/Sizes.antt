@@ -10,7 +10,7 @@ use Rattle.program.specs.declared.Program.{Program}
 use Rattle.program.proofs.Shape.{program-iff}
 use Rattle.machine.specs.declared.Machine.{Machine}
 use Rattle.machine.specs.State.{freshThread}
-use Rattle.machine.specs.WellFormed.{Formed}
+use Rattle.machine.specs.Inner.{Formed}
 use Rattle.machine.proofs.Formed.{machine-iff}
 use Rattle.encode_bytes.proofs.Entries.{entries-length, entries-each}
 use Rattle.encode_machine.specs.Value.{memoryFrom, threadFrom, machineOf}

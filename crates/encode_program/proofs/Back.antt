@@ -10,7 +10,8 @@ use Rattle.program.specs.Program.{noInstruction, noCode, noCondition, codeOf}
 use Rattle.program.specs.File.{byteAt}
 use Rattle.program.specs.declared.Code.{Code}
 use Rattle.program.specs.declared.Program.{Program}
-use Rattle.encode_bytes.specs.Lists.{joined, entries, AllBytes}
+use Rattle.encode_bytes.specs.Lists.{joined, entries}
+use Rattle.encode_bytes.specs.Inner.{AllBytes}
 use Rattle.encode_program.specs.Value.{instructionBytes, codeBytes, conditionBytes, programBytes, instructionFrom, codeFrom, conditionFrom, programOf}
 use Rattle.encode_program.specs.Sized.{SizedProgram}
 use Rattle.encode_program.proofs.Lengths.{code-length, codes-length}

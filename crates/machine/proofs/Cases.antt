@@ -15,8 +15,8 @@ use Rattle.program.proofs.Counts.{there}
 use Rattle.program.specs.Inner.{CodeOk}
 use Rattle.machine.specs.Below.{Code, Operand, Constant, OfRegister, LoadMode, StoreMode, Instr, Compute, Load, Store, Branch, Fence}
 use Rattle.machine.specs.State.{Message, Memory, Thread, append, has, with, withPromises}
-use Rattle.machine.specs.Rules.{Executed, refused, next, valueOf, viewOf, address, loadPre, readable, noneNewer, readView, loadDone, loadAt, promised, storeDone, storeAt, execute, addPromise}
-use Rattle.machine.specs.Inner.{Ruled, Done, Refused, ruled, reach, belowTime, stored, ownAt, storeMessage, ownStore}
+use Rattle.machine.specs.Rules.{Executed, refused, next, valueOf, viewOf, address, loadPre, readable, noneNewer, readView, loadDone, loadAt, promised, storeDone, storeAt, execute, addPromise, storeMessage}
+use Rattle.machine.specs.Inner.{Ruled, Done, Refused, ruled, reach, belowTime, stored, ownAt, ownStore}
 use Rattle.machine.proofs.Sets.{has-with, with-without}
 use Rattle.machine.proofs.Memories.{message-new}
 

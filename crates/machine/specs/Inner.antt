@@ -3,11 +3,13 @@
 use mathlib.Core.Path.{_≡_}
 use mathlib.Core.Bool.{Bool, true, false, _&&_}
 use Prim.Native.Nat.{ℕ, max, _+_, _<_, _≤_}
-use lib.Dec.{ltb}
+use lib.Dec.{T, ltb}
 use Rattle.theory_views.specs.Views.{viewAt}
-use Rattle.machine.specs.Below.{Operand, StoreMode, Instr, Compute, Load, Store, Branch, Fence}
-use Rattle.machine.specs.State.{Message, Memory, Thread, has, append, raiseCoherence, withForward, withViews}
-use Rattle.machine.specs.Rules.{Executed, refused, next, test, valueOf, address, advance, storePre, storeViews, execute, addPromise}
+use Rattle.program.specs.WellFormed.{programTest}
+use Rattle.machine.specs.Below.{Program, Operand, StoreMode, Instr, Compute, Load, Store, Branch, Fence}
+use Rattle.machine.specs.State.{Memory, Thread, Machine, has, append, raiseCoherence, withForward, withViews}
+use Rattle.machine.specs.Rules.{Executed, refused, next, test, advance, storePre, storeViews, execute, addPromise, storeMessage}
+use Rattle.machine.specs.WellFormed.{machineTest}
 pub use Rattle.machine.specs.declared.RuleAnswer.{RuleAnswer}
 pub use Rattle.machine.specs.declared.RuleAnswer.the-variants.{Done, Refused}
 pub use Rattle.machine.specs.declared.Ruled.{Ruled}
@@ -38,10 +40,6 @@ stored k t l va vd s = advance 1 (withForward l t (max va vd) (withViews (storeV
 unfoldable pub ownAt : StoreMode → ℕ → ℕ → ℕ → ℕ → Thread → Executed
 ownAt k t l va vd s = test (belowTime k t l va vd s) 28 (next (stored k t l va vd s))
 
--- the message of a store of thread i: data d to address a
-abbrev pub storeMessage : ℕ → Operand → Operand → Thread → Message
-storeMessage i a d s = record { location = address (valueOf s a); value = valueOf s d; thread = i }
-
 -- a store of thread i that appends its own message and fulfils it at once
 unfoldable pub ownStore : StoreMode → Operand → Operand → Memory → ℕ → Thread → Executed
 ownStore k a d m i s =
@@ -54,3 +52,9 @@ pub record First (p t : ℕ) : Type 0 where
   pub member : has p t ≡ true
   pub within : t ≤ 16
   pub before : (u : ℕ) → u < t → has p u ≡ false
+
+-- ---- machines
+-- program and machine are well formed: else refusal 20
+pub record Formed (p : Program) (x : Machine) : Type 0 where
+  pub program-formed : T (programTest p)
+  pub machine-formed : T (machineTest p x)

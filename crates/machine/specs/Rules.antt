@@ -8,7 +8,7 @@ use lib.ListN.{getD}
 use Rattle.theory_views.specs.Views.{viewAt}
 use Rattle.program.specs.Tests.{below}
 use Rattle.machine.specs.Below.{Operand, Constant, OfRegister, ComputeMode, Add, Subtract, ExclusiveOr, Equal, LoadMode, PlainLoad, Acquire, WeakAcquire, StoreMode, PlainStore, Release, FenceMode, DmbSy, DmbLd, DmbSt, Isb, Instr, Compute, Load, Store, Branch, Fence}
-use Rattle.machine.specs.State.{Memory, Views, Thread, freshRegister, freshForward, messageAt, has, with, without, raiseROld, raiseWOld, raiseRNew, raiseWNew, raiseCap, raiseRel, withPosition, withRegister, raiseCoherence, withForward, withViews, withPromises}
+use Rattle.machine.specs.State.{Message, Memory, Views, Thread, freshRegister, freshForward, messageAt, has, with, raiseROld, raiseWOld, raiseRNew, raiseWNew, raiseCap, raiseRel, withPosition, withRegister, raiseCoherence, withForward, withViews, withPromises, takeOut}
 
 -- the answer of a rule: a refusal number, or the thread's next state
 pub data Executed : Type 0 where
@@ -132,7 +132,7 @@ storeViews k t va w = raiseCap va (raiseRel (ifRelease k t) (raiseWOld t w))
 -- the promise is taken out; the coherence view is raised by t; the forward pair becomes t and the larger of address and data view
 abbrev pub storeDone : StoreMode → ℕ → ℕ → ℕ → ℕ → Thread → Thread
 storeDone k t l va vd s =
-    advance 1 (withForward l t (max va vd) (withViews (storeViews k t va (s .views)) (raiseCoherence l t (withPromises (without (s .promises) t) s))))
+    advance 1 (withForward l t (max va vd) (withViews (storeViews k t va (s .views)) (raiseCoherence l t (takeOut t s))))
 
 -- pre-view and coherence view must both be below t
 unfoldable pub storeAt : StoreMode → Memory → ℕ → ℕ → ℕ → ℕ → ℕ → Thread → Executed
@@ -164,3 +164,7 @@ execute (Fence k) m t s = test (eqb t 0) 26 (next (fenceDone k s))
 -- the thread with the newest message of m among its promises
 abbrev pub addPromise : Memory → Thread → Thread
 addPromise m s = withPromises (with (s .promises) (m .count)) s
+
+-- the message of a store of thread i: data d to address a
+abbrev pub storeMessage : ℕ → Operand → Operand → Thread → Message
+storeMessage i a d s = record { location = address (valueOf s a); value = valueOf s d; thread = i }

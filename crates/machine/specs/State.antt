@@ -109,3 +109,7 @@ withViews w s = record { position = s .position; registers = s .registers; coher
 
 abbrev pub withPromises : ℕ → Thread → Thread
 withPromises p s = record { position = s .position; registers = s .registers; coherence = s .coherence; forward = s .forward; views = s .views; promises = p }
+
+-- the promise at time t is taken out
+abbrev pub takeOut : ℕ → Thread → Thread
+takeOut t s = withPromises (without (s .promises) t) s

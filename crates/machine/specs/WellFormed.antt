@@ -3,12 +3,11 @@
 use mathlib.Core.Bool.{Bool, not, cond, _&&_, _||_}
 use mathlib.Core.List.{[], _∷_}
 use Prim.Native.Nat.{ℕ, suc, _^_}
-use lib.Dec.{T, eqb, leb, ltb}
+use lib.Dec.{eqb, leb, ltb}
 use lib.ListN.{length, getD}
 use Rattle.theory_views.specs.Views.{viewAt}
 use Rattle.program.specs.Tests.{allOf, below}
 use Rattle.program.specs.Program.{codeOf}
-use Rattle.program.specs.WellFormed.{programTest}
 use Rattle.machine.specs.Below.{Code, Program}
 use Rattle.machine.specs.State.{Message, Memory, Views, Thread, Machine, freshRegister, freshForward, threadOf, messageAt, has}
 
@@ -77,8 +76,3 @@ machineTest p x =
     ∷ eqb (length (x .threads)) 4
     ∷ below (λ i. cond (ltb i (p .threads)) (threadTest (codeOf p i) i (x .memory) (threadOf x i)) (unusedThread (threadOf x i))) 4
     ∷ [])
-
--- program and machine are well formed: else refusal 20
-pub record Formed (p : Program) (x : Machine) : Type 0 where
-  pub program-formed : T (programTest p)
-  pub machine-formed : T (machineTest p x)

@@ -1,15 +1,17 @@
 // A thread's state by value: what it holds, and the small changes that hand it back.
 ghost use mathlib.Core.Path.{_≡_};
 ghost use Prim.Native.Nat.{_+_, _<_};
+ghost use lib.Dec.{T};
 ghost use lib.ListN.{getD};
 ghost use Rattle.theory_views.specs.Views.{viewAt};
-ghost use Rattle.machine.specs.State.{freshRegister, freshForward, withPosition, withRegister, raiseCoherence, withForward, withViews, withPromises};
+ghost use Rattle.machine.specs.State.{freshRegister, freshForward, withPosition, withRegister, raiseCoherence, withForward, withViews, withPromises, takeOut, has};
 ghost use Rattle.machine.specs.Rules.{advance};
 use crate::Forward;
 use crate::Register;
 use crate::Thread;
 use crate::Views;
 use crate::merge::larger;
+use crate::promises::without;
 
 impl Thread {
     pub fn register_at(self, n: u8) -> Register
@@ -94,5 +96,12 @@ impl Thread {
     {
         self.promises = p;
         self
+    }
+
+    pub fn take_out(self, t: u8) -> Thread
+        requires { ⌜ T (has (self .promises) t) ⌝ }
+        ensures { λ r. ⌜ r ≡ takeOut t self ⌝ }
+    {
+        self.with_promises(without(self.promises, t))
     }
 }

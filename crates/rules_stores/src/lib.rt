@@ -13,7 +13,6 @@ use machine::answers::done;
 use machine::answers::refused;
 use machine::merge::larger;
 use machine::promises::has;
-use machine::promises::without;
 use program::StoreMode;
 
 // The largest of address view, data view, wNew and CAP, and for release also rOld and wOld.
@@ -86,8 +85,7 @@ pub fn store_done(k: StoreMode, t: u8, l: u8, va: u8, vd: u8, s: Thread) -> Thre
     requires { ⌜ (s .position + 1 < 256) × ((l < 16) × T (has (s .promises) t)) ⌝ }
     ensures { λ r. ⌜ r ≡ storeDone k t l va vd s ⌝ }
 {
-    let p = without(s.promises, t);
-    stored(k, t, l, va, vd, s.with_promises(p))
+    stored(k, t, l, va, vd, s.take_out(t))
 }
 
 // A store at time t; l is the location, v the value, va and vd the views of address and data.

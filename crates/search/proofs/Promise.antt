@@ -58,16 +58,16 @@ module _ {f : List ℕ} {p : Program} (good : readFile f ≡ program p) {area : 
   search-demand l h = (answerTo p b, demand-3 p b l h, is-answer, is-lent)
 
 -- ---- by the verdict
-pub verdict-of : Answer → Verdict
+verdict-of : Answer → Verdict
 verdict-of r = r .verdict
 
 -- which answer of the definition a verdict stands for
-pub data Which (p : Program) (b : ℕ) (area : List ℕ) (r : Answer) (after : List ℕ) : Type 0 where
+data Which (p : Program) (b : ℕ) (area : List ℕ) (r : Answer) (after : List ℕ) : Type 0 where
   is-allowed : (n : ℕ) (q : List Step) → answerTo p b ≡ sequences.allowed n q → r ≡ record { verdict = Allowed; count = n; steps = length q } → after ≡ traceBytes q ++ drop (6 * length q) area → Which p b area r after
   is-forbidden : (n : ℕ) → answerTo p b ≡ sequences.forbidden n → r ≡ record { verdict = Forbidden; count = n; steps = 0 } → after ≡ area → Which p b area r after
   is-unfinished : (n : ℕ) → answerTo p b ≡ sequences.unfinished n → r ≡ record { verdict = NotFinished; count = n; steps = 0 } → after ≡ area → Which p b area r after
 
-pub which : (p : Program) (b : ℕ) (area : List ℕ) (r : Answer) (after : List ℕ) → r ≡ answerOf (answerTo p b) → after ≡ areaOf (answerTo p b) area → Which p b area r after
+which : (p : Program) (b : ℕ) (area : List ℕ) (r : Answer) (after : List ℕ) → r ≡ answerOf (answerTo p b) → after ≡ areaOf (answerTo p b) area → Which p b area r after
 which p b area r after e g = go (answerTo p b) refl e g
   where
     go : (o : sequences.Answer Step) → answerTo p b ≡ o → r ≡ answerOf o → after ≡ areaOf o area → Which p b area r after

@@ -20,7 +20,7 @@ use Rattle.program.proofs.Counts.{sum-le}
 use Rattle.program.proofs.Formed.{program-ok}
 use Rattle.program.proofs.ReadFormed.{read-formed}
 use Rattle.machine.specs.State.{fresh}
-use Rattle.encode_bytes.specs.Lists.{put}
+use Rattle.encode_bytes.specs.Inner.{put}
 use Rattle.theory_sequences.specs.Sequences.{upto, wanted}
 use Rattle.theory_sequences.specs.Answer as sequences
 use Rattle.theory_sequences.proofs.Scan.{answer-told, left-le}

@@ -16,7 +16,7 @@ use Rattle.theory_sequences.proofs.Listed.{only}
 use Rattle.theory_sequences.proofs.Scan.{scan-all, scan-spent, scan-went}
 use Rattle.theory_sequences.specs.Scan.{Scan, going, out}
 use Rattle.step.specs.Step.{Step}
-use Rattle.machine.specs.WellFormed.{Formed}
+use Rattle.machine.specs.Inner.{Formed}
 use Rattle.encode_machine.proofs.Sizes.{formed-machine-sized}
 use Rattle.search_table.specs.Table.{EverySlot, slotWith, Sought}
 use Rattle.search_table.specs.declared.Seen.{Seen}

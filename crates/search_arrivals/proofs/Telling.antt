@@ -13,7 +13,7 @@ use Rattle.machine.specs.declared.Machine.{Machine}
 use Rattle.step.specs.Step.{Step}
 use Rattle.step.specs.Outcome.{complete, questionHolds, asked}
 use Rattle.step.specs.Trace.{stepBytes, traceBytes}
-use Rattle.encode_bytes.specs.Lists.{put}
+use Rattle.encode_bytes.specs.Inner.{put}
 use Rattle.theory_sequences.specs.Scan.{Scan, going, found, out}
 use Rattle.search_arrivals.specs.Visits.{Ran, Going, Reports}
 

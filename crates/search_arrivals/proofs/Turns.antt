@@ -18,9 +18,9 @@ use Rattle.machine.specs.State.{threadOf}
 use Rattle.program.specs.Program.{codeOf}
 use Rattle.program.proofs.Tests.{and-left, below-at}
 use Rattle.program.proofs.Shape.{program-iff}
-use Rattle.machine.specs.WellFormed.{Formed}
+use Rattle.machine.specs.Inner.{Formed}
 use Rattle.certify.proofs.Asked.{program-facts}
-use Rattle.encode_bytes.specs.Lists.{put}
+use Rattle.encode_bytes.specs.Inner.{put}
 use Rattle.encode_bytes.proofs.Putting.{put-none}
 use Rattle.theory_sequences.proofs.Scan.{found-short}
 use Rattle.theory_sequences.specs.Scan.{Scan, going, found, out, andThen, under}

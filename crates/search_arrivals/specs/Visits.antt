@@ -8,14 +8,14 @@ use lib.Dec.{leb}
 use lib.ListN.{length}
 use Rattle.program.specs.declared.Program.{Program}
 use Rattle.machine.specs.declared.Machine.{Machine}
-use Rattle.machine.specs.WellFormed.{Formed}
+use Rattle.machine.specs.Inner.{Formed}
 use Rattle.theory_sequences.specs.Sequences.{upto, branches, wanted}
 use Rattle.theory_sequences.specs.Demand.{NoneWanted}
 use Rattle.theory_sequences.specs.Scan.{Scan, going, found, out, scan}
 use Rattle.step.specs.Step.{Step}
 use Rattle.step.specs.Trace.{traceBytes}
 use Rattle.step.proofs.Bound.{potential}
-use Rattle.encode_bytes.specs.Lists.{put}
+use Rattle.encode_bytes.specs.Inner.{put}
 use Rattle.search_sequences.specs.OfProgram.{stepping}
 use Rattle.search_tries.specs.Steps.{NextOpen}
 pub use Rattle.search_arrivals.specs.declared.Ran.{Ran}

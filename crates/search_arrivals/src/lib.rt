@@ -1,6 +1,6 @@
 // What is asked at a machine that the search comes to: the budget, the end, and the table of machines that are known.
 ghost use mathlib.Core.Path.{_≡_};
-ghost use Rattle.machine.specs.WellFormed.{Formed};
+ghost use Rattle.machine.specs.Inner.{Formed};
 ghost use Rattle.step.specs.Outcome.{asked};
 ghost use Rattle.search_table.specs.Table.{EverySlot};
 ghost use Rattle.search_arrivals.specs.Visits.{atEnd, afterKnown, Known, Arrives};

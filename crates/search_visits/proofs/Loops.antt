@@ -20,7 +20,7 @@ use Rattle.program.proofs.Arrays.{getD-any}
 use Rattle.certify.specs.Answers as certified
 use Rattle.certify.proofs.Asked.{program-facts, machine-facts, ready-here}
 use Rattle.certify.proofs.Law.{Sound}
-use Rattle.encode_bytes.specs.Lists.{put}
+use Rattle.encode_bytes.specs.Inner.{put}
 use Rattle.theory_sequences.specs.Scan.{Scan}
 use Rattle.step.specs.Step.{Step, accepted, rejected, step}
 use Rattle.step.specs.declared.StepAnswer.the-variants.{Taken, Refused}

@@ -4,7 +4,7 @@ ghost use Prim.Native.Nat.{_+_, _≤_};
 ghost use lib.ListN.{length};
 ghost use Rattle.step.specs.Trace.{stepBytes};
 ghost use Rattle.search_table.specs.Table.{EverySlot};
-ghost use Rattle.encode_bytes.specs.Lists.{put};
+ghost use Rattle.encode_bytes.specs.Inner.{put};
 ghost use Rattle.search_arrivals.specs.Visits.{visiting, Reports, Visitable, Known, Opens};
 use machine::Machine;
 use program::Program;

@@ -8,7 +8,8 @@ use lib.ListN.{set}
 use borrow.Author.Tests.{lt-ltb, eqb-false}
 use Rattle.program.specs.WellFormed.{programTest}
 use Rattle.program.proofs.Tests.{and-both, is-true}
-use Rattle.machine.specs.WellFormed.{machineTest, Formed}
+use Rattle.machine.specs.WellFormed.{machineTest}
+use Rattle.machine.specs.Inner.{Formed}
 use Rattle.step.specs.Below.{Code, Program, Memory, Thread, Machine}
 use Rattle.step.specs.Step.{Step, Decision, rejected, accepted, ruleStep, step}
 use Rattle.step.specs.Answers.{Taken, Refused, Stepped, stepped}

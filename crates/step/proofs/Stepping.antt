@@ -14,8 +14,8 @@ use Rattle.program.specs.WellFormed.{programTest}
 use Rattle.program.proofs.Tests.{is-true}
 use Rattle.machine.specs.State.{threadOf, append, with, withPromises}
 use Rattle.machine.specs.Rules.{execute, addPromise}
-use Rattle.machine.specs.WellFormed.{machineTest, Formed}
-use Rattle.machine.specs.Inner.{ruled, reach}
+use Rattle.machine.specs.WellFormed.{machineTest}
+use Rattle.machine.specs.Inner.{Formed, ruled, reach}
 use Rattle.machine.specs.declared.RuleAnswer.the-variants as rule
 use Rattle.machine.specs.declared.Ruled.{Ruled}
 use Rattle.machine.proofs.Cases.{reach-within, ruled-done, ruled-refused}

@@ -3,7 +3,7 @@ ghost use mathlib.Core.Path.{_≡_};
 ghost use mathlib.Core.Bool.{_&&_};
 ghost use Prim.Native.Nat.{_≤_};
 ghost use lib.Dec.{eqb};
-ghost use Rattle.machine.specs.WellFormed.{Formed};
+ghost use Rattle.machine.specs.Inner.{Formed};
 ghost use Rattle.step.specs.Outcome.{complete, lastValue, questionHolds, asked};
 ghost use Rattle.step_ending.specs.Conditions.{HoldsWith, allHold, Askable};
 use machine::Machine;

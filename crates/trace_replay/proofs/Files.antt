@@ -12,7 +12,7 @@ use Rattle.program.specs.Answers.{fileRead}
 use Rattle.program.proofs.ReadFormed.{read-formed}
 use Rattle.machine.specs.declared.Machine.{Machine}
 use Rattle.machine.specs.State.{fresh}
-use Rattle.machine.specs.WellFormed.{Formed}
+use Rattle.machine.specs.Inner.{Formed}
 use Rattle.step.proofs.Kept.{fresh-formed}
 use Rattle.trace_replay.specs.Replay.{replayFrom}
 use Rattle.trace_replay.specs.Answers.{Replayed, replayed, onProgram, replay}

@@ -12,7 +12,7 @@ use borrow.Author.Tests.{eq-eqb, ne-eqb}
 use Rattle.program.specs.declared.Program.{Program}
 use Rattle.program.specs.File.{byteAt}
 use Rattle.machine.specs.declared.Machine.{Machine}
-use Rattle.machine.specs.WellFormed.{Formed}
+use Rattle.machine.specs.Inner.{Formed}
 use Rattle.step.specs.declared.TraceStep.{TraceStep}
 use Rattle.step.specs.declared.Stepped.{Stepped}
 use Rattle.step.specs.declared.StepAnswer.the-variants.{Taken, Refused}

@@ -5,7 +5,7 @@ ghost use Prim.Native.Nat.{ℕ, _+_, _*_, _≤_};
 ghost use lib.ListN.{length};
 ghost use Rattle.program.specs.Program.{noProgram};
 ghost use Rattle.program.specs.File.{refused};
-ghost use Rattle.machine.specs.WellFormed.{Formed};
+ghost use Rattle.machine.specs.Inner.{Formed};
 ghost use Rattle.step.specs.Answers.{stepRefusal};
 ghost use Rattle.trace_replay.specs.Replay.{ended, broken, replayFrom};
 ghost use Rattle.trace_replay.specs.Answers.{replayed, onProgram, refusedWith, replay, stepAt};

@@ -1,4 +1,4 @@
--- `pace::from_0_on` meets its contract: what is not negative can be cast.
+-- `cases_pace::from_0_on` meets its contract: what is not negative can be cast.
 -- Assumes nothing.
 use mathlib.Core.Path.{sym, subst}
 use native.Mathlib.Nat.{lt-of-le-of-lt}

@@ -1,4 +1,4 @@
--- `pace::readings` meets its contract.
+-- `cases_pace::readings` meets its contract.
 -- Assumes nothing.
 use borrow.Author.Needs.{needs}
 use mathlib.Core.Path.{_≡_}

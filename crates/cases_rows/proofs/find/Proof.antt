@@ -1,4 +1,4 @@
--- `rows::find` meets its contract.
+-- `cases_rows::find` meets its contract.
 -- Assumes nothing.
 use Prim.Native.Nat.{_-_, _≤_}
 use lib.ListN.{length}

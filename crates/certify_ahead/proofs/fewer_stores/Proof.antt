@@ -1,4 +1,4 @@
--- `live::fewer_stores` meets its contract.
+-- `certify_ahead::fewer_stores` meets its contract.
 -- Assumes nothing.
 use mathlib.Core.Path.{_≡_}
 use Prim.Native.Nat.{_+_, _-_, _≤_, _<_}

@@ -1,4 +1,4 @@
--- `live::loads_ahead` meets its contract.
+-- `certify_ahead::loads_ahead` meets its contract.
 -- Assumes nothing.
 use mathlib.Core.Path.{_≡_, subst}
 use Prim.Native.Nat.{_-_, _≤_, _<_}

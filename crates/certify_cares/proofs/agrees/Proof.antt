@@ -1,4 +1,4 @@
--- `cares::agrees` meets its contract: one case for each return.
+-- `certify_cares::agrees` meets its contract: one case for each return.
 -- Assumes nothing.
 use mathlib.Core.Path.{refl}
 use borrow.Author.Tests.{not-true, not-false, eqb-false}

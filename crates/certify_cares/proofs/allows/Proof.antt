@@ -1,4 +1,4 @@
--- `cares::allows` meets its contract: one case for each kind of code.
+-- `certify_cares::allows` meets its contract: one case for each kind of code.
 -- Assumes nothing.
 use mathlib.Core.Path.{sym, subst, refl}
 use Prim.Native.Nat.{_+_}

@@ -1,4 +1,4 @@
--- `cares::joined` meets its contract: one case for each way to join.
+-- `certify_cares::joined` meets its contract: one case for each way to join.
 -- Assumes nothing.
 use native.Mathlib.Omega.{arith}
 use lib.Bits.{or-lt}

@@ -1,4 +1,4 @@
--- `lost::barred` meets its contract: one case for each instruction, and for a store one for each way in which it cannot.
+-- `certify_lost::barred` meets its contract: one case for each instruction, and for a store one for each way in which it cannot.
 -- Assumes nothing.
 use mathlib.Core.Path.{sym, ap, subst, _∙_}
 use native.Mathlib.Omega.{arith}

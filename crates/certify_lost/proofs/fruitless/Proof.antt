@@ -1,4 +1,4 @@
--- `lost::fruitless` meets its contract.
+-- `certify_lost::fruitless` meets its contract.
 -- Assumes nothing.
 use mathlib.Core.Logic.{inl, inr}
 use borrow.Author.Needs.{needs}

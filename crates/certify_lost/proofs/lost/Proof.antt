@@ -1,4 +1,4 @@
--- `lost::lost` meets its contract.
+-- `certify_lost::lost` meets its contract.
 -- Assumes nothing.
 use mathlib.Core.Path.{refl, sym, subst, _∙_}
 use mathlib.Core.Logic.{⊎-elim}

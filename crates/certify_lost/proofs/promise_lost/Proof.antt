@@ -1,4 +1,4 @@
--- `lost::promise_lost` meets its contract.
+-- `certify_lost::promise_lost` meets its contract.
 -- Assumes nothing.
 use mathlib.Core.Path.{sym, subst, _∙_}
 use Prim.Native.Nat.{_+_, _≤_, _<_}

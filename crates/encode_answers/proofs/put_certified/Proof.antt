@@ -1,4 +1,4 @@
--- `answers_value::put_certified` meets its contract: two bytes.
+-- `encode_answers::put_certified` meets its contract: two bytes.
 -- Assumes nothing.
 use borrow.Author.Needs.{needs}
 use Rattle.encode_answers.proofs.put_certified.Statement.{statement}

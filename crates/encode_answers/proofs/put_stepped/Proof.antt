@@ -1,4 +1,4 @@
--- `answers_value::put_stepped` meets its contract: the refusal, then the machine.
+-- `encode_answers::put_stepped` meets its contract: the refusal, then the machine.
 -- Assumes nothing.
 use native.Mathlib.Omega.{arith}
 use borrow.Author.Needs.{needs}

@@ -1,4 +1,4 @@
--- `values::put_one` meets its contract: one store.
+-- `encode_bytes::put_one` meets its contract: one store.
 -- Assumes nothing.
 use native.Mathlib.Omega.{arith}
 use borrow.Author.Needs.{needs}

@@ -1,4 +1,4 @@
--- `values::put_u64` meets its contract: the low half and then the high one.
+-- `encode_bytes::put_u64` meets its contract: the low half and then the high one.
 -- Assumes nothing.
 use native.Mathlib.Omega.{arith}
 use borrow.Author.Needs.{needs}

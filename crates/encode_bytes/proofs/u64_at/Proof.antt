@@ -1,4 +1,4 @@
--- `values::u64_at` meets its contract.
+-- `encode_bytes::u64_at` meets its contract.
 -- Assumes nothing.
 use borrow.Author.Needs.{needs}
 use Rattle.encode_bytes.proofs.Words.{word64-at}

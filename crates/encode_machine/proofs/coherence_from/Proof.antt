@@ -1,4 +1,4 @@
--- `machine_value::coherence_from` meets its contract: the loop reads 16 bytes.
+-- `encode_machine::coherence_from` meets its contract: the loop reads 16 bytes.
 -- Assumes nothing.
 use mathlib.Core.Path.{refl}
 use Prim.Native.Nat.{_+_, _-_}

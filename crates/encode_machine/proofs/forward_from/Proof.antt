@@ -1,4 +1,4 @@
--- `machine_value::forward_from` meets its contract: the loop reads 16 entries of 2 bytes.
+-- `encode_machine::forward_from` meets its contract: the loop reads 16 entries of 2 bytes.
 -- Assumes nothing.
 use mathlib.Core.Path.{refl}
 use Prim.Native.Nat.{_+_, _-_, _*_}

@@ -1,4 +1,4 @@
--- `machine_value::machine_of` meets its contract: the memory, then the threads.
+-- `encode_machine::machine_of` meets its contract: the memory, then the threads.
 -- Assumes nothing.
 use borrow.Author.Needs.{needs}
 use Rattle.encode_machine.specs.Value.{machineOf}

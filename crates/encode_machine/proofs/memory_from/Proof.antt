@@ -1,4 +1,4 @@
--- `machine_value::memory_from` meets its contract: the count, then the messages.
+-- `encode_machine::memory_from` meets its contract: the count, then the messages.
 -- Assumes nothing.
 use native.Mathlib.Nat.{add-zero}
 use lib.Seq.{getD-drop, drop-drop}

@@ -1,4 +1,4 @@
--- `machine_value::messages_from` meets its contract: the loop reads 16 entries of 3 bytes.
+-- `encode_machine::messages_from` meets its contract: the loop reads 16 entries of 3 bytes.
 -- Assumes nothing.
 use mathlib.Core.Path.{refl}
 use Prim.Native.Nat.{_+_, _-_, _*_}

@@ -1,4 +1,4 @@
--- `machine_value::put_coherence` meets its contract: the loop writes 16 bytes.
+-- `encode_machine::put_coherence` meets its contract: the loop writes 16 bytes.
 -- Assumes nothing.
 use mathlib.Core.Path.{refl}
 use mathlib.Core.List.{[], _∷_}

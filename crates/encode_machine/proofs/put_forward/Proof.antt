@@ -1,4 +1,4 @@
--- `machine_value::put_forward` meets its contract: the loop writes 16 entries of 2 bytes.
+-- `encode_machine::put_forward` meets its contract: the loop writes 16 entries of 2 bytes.
 -- Assumes nothing.
 use mathlib.Core.Path.{refl}
 use Prim.Native.Nat.{_+_, _-_, _*_}

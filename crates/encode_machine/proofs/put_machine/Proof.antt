@@ -1,4 +1,4 @@
--- `machine_value::put_machine` meets its contract: the memory, then the threads.
+-- `encode_machine::put_machine` meets its contract: the memory, then the threads.
 -- Assumes nothing.
 use native.Mathlib.Omega.{arith}
 use borrow.Author.Needs.{needs}

@@ -1,4 +1,4 @@
--- `machine_value::put_memory` meets its contract: the count, then the messages.
+-- `encode_machine::put_memory` meets its contract: the count, then the messages.
 -- Assumes nothing.
 use native.Mathlib.Omega.{arith}
 use borrow.Author.Needs.{needs}

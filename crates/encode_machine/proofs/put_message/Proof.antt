@@ -1,4 +1,4 @@
--- `machine_value::put_message` meets its contract: a run of stores.
+-- `encode_machine::put_message` meets its contract: a run of stores.
 -- Assumes nothing.
 use native.Mathlib.Numerals.{add-one, add-two}
 use native.Mathlib.Omega.{arith}

@@ -1,4 +1,4 @@
--- `machine_value::put_messages` meets its contract: the loop writes 16 entries of 3 bytes.
+-- `encode_machine::put_messages` meets its contract: the loop writes 16 entries of 3 bytes.
 -- Assumes nothing.
 use mathlib.Core.Path.{refl}
 use Prim.Native.Nat.{_+_, _-_, _*_}

@@ -1,4 +1,4 @@
--- `machine_value::put_thread` meets its contract: part after part.
+-- `encode_machine::put_thread` meets its contract: part after part.
 -- Assumes nothing.
 use native.Mathlib.Omega.{arith}
 use borrow.Author.Needs.{needs}

@@ -1,4 +1,4 @@
--- `machine_value::put_views` meets its contract: a run of stores.
+-- `encode_machine::put_views` meets its contract: a run of stores.
 -- Assumes nothing.
 use native.Mathlib.Numerals.{add-one, add-two, add-three, add-four, add-five}
 use native.Mathlib.Omega.{arith}

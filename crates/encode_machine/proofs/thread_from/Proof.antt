@@ -1,4 +1,4 @@
--- `machine_value::thread_from` meets its contract: part after part.
+-- `encode_machine::thread_from` meets its contract: part after part.
 -- Assumes nothing.
 use mathlib.Core.Path.{sym}
 use borrow.Author.Needs.{needs}

@@ -1,4 +1,4 @@
--- `program_value::code_from` meets its contract: the count, then the instructions.
+-- `encode_program::code_from` meets its contract: the count, then the instructions.
 -- Assumes nothing.
 use native.Mathlib.Nat.{add-zero}
 use lib.Seq.{getD-drop, drop-drop}

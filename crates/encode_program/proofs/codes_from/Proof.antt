@@ -1,4 +1,4 @@
--- `program_value::codes_from` meets its contract: the loop reads 4 entries of 113 bytes.
+-- `encode_program::codes_from` meets its contract: the loop reads 4 entries of 113 bytes.
 -- Assumes nothing.
 use mathlib.Core.Path.{refl}
 use Prim.Native.Nat.{_+_, _-_, _*_}

@@ -1,4 +1,4 @@
--- `program_value::instructions_from` meets its contract: the loop reads 16 entries of 7 bytes.
+-- `encode_program::instructions_from` meets its contract: the loop reads 16 entries of 7 bytes.
 -- Assumes nothing.
 use mathlib.Core.Path.{refl}
 use Prim.Native.Nat.{_+_, _-_, _*_}

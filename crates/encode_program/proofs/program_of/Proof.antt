@@ -1,4 +1,4 @@
--- `program_value::program_of` meets its contract: part after part.
+-- `encode_program::program_of` meets its contract: part after part.
 -- Assumes nothing.
 use borrow.Author.Needs.{needs}
 use Rattle.encode_program.specs.Value.{programOf}

@@ -1,4 +1,4 @@
--- `program_value::put_code` meets its contract: the count, then the instructions.
+-- `encode_program::put_code` meets its contract: the count, then the instructions.
 -- Assumes nothing.
 use native.Mathlib.Omega.{arith}
 use borrow.Author.Needs.{needs}

@@ -1,4 +1,4 @@
--- `program_value::put_codes` meets its contract: the loop writes 4 entries of 113 bytes.
+-- `encode_program::put_codes` meets its contract: the loop writes 4 entries of 113 bytes.
 -- Assumes nothing.
 use mathlib.Core.Path.{refl}
 use Prim.Native.Nat.{_+_, _-_, _*_}

@@ -1,4 +1,4 @@
--- `program_value::put_condition` meets its contract: a run of stores.
+-- `encode_program::put_condition` meets its contract: a run of stores.
 -- Assumes nothing.
 use native.Mathlib.Numerals.{add-one, add-two, add-three}
 use native.Mathlib.Omega.{arith}

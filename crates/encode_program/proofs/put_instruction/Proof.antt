@@ -1,4 +1,4 @@
--- `program_value::put_instruction` meets its contract: a run of stores.
+-- `encode_program::put_instruction` meets its contract: a run of stores.
 -- Assumes nothing.
 use native.Mathlib.Numerals.{add-one, add-two, add-three, add-four, add-five, add-six}
 use native.Mathlib.Omega.{arith}

@@ -1,4 +1,4 @@
--- `program_value::put_instructions` meets its contract: the loop writes 16 entries of 7 bytes.
+-- `encode_program::put_instructions` meets its contract: the loop writes 16 entries of 7 bytes.
 -- Assumes nothing.
 use mathlib.Core.Path.{refl}
 use Prim.Native.Nat.{_+_, _-_, _*_}

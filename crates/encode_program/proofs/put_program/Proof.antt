@@ -1,4 +1,4 @@
--- `program_value::put_program` meets its contract: part after part.
+-- `encode_program::put_program` meets its contract: part after part.
 -- Assumes nothing.
 use native.Mathlib.Omega.{arith}
 use borrow.Author.Needs.{needs}

@@ -1,4 +1,4 @@
--- `program_value::put_question` meets its contract: the loop writes 8 entries of 4 bytes.
+-- `encode_program::put_question` meets its contract: the loop writes 8 entries of 4 bytes.
 -- Assumes nothing.
 use mathlib.Core.Path.{refl}
 use Prim.Native.Nat.{_+_, _-_, _*_}

@@ -1,4 +1,4 @@
--- `program_value::question_from` meets its contract: the loop reads 8 entries of 4 bytes.
+-- `encode_program::question_from` meets its contract: the loop reads 8 entries of 4 bytes.
 -- Assumes nothing.
 use mathlib.Core.Path.{refl}
 use Prim.Native.Nat.{_+_, _-_, _*_}

@@ -1,4 +1,4 @@
--- `cursor::fault` meets its contract.
+-- `file_cursor::fault` meets its contract.
 -- Assumes nothing.
 use borrow.Author.Needs.{needs}
 use Rattle.program.proofs.Reading.{marked-short, marked-first, marked-second, marked-right}

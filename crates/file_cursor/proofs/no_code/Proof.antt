@@ -1,4 +1,4 @@
--- `cursor::no_code` meets its contract.
+-- `file_cursor::no_code` meets its contract.
 -- Assumes nothing.
 use borrow.Author.Needs.{needs}
 use Rattle.file_cursor.proofs.no_code.Statement.{statement}

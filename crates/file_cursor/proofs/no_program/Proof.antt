@@ -1,4 +1,4 @@
--- `cursor::no_program` meets its contract.
+-- `file_cursor::no_program` meets its contract.
 -- Assumes nothing.
 use borrow.Author.Needs.{needs}
 use Rattle.file_cursor.proofs.no_program.Statement.{statement}

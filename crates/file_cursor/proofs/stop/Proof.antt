@@ -1,4 +1,4 @@
--- `cursor::stop` meets its contract.
+-- `file_cursor::stop` meets its contract.
 -- Assumes nothing.
 use borrow.Author.Needs.{needs}
 use Rattle.file_cursor.proofs.stop.Statement.{statement}

@@ -1,4 +1,4 @@
--- `range::index_limit` meets its contract.
+-- `file_range::index_limit` meets its contract.
 -- Assumes nothing.
 use borrow.Author.Tests.{eq-eqb, ne-eqb}
 use Rattle.file_range.proofs.index_limit.Statement.{statement}

@@ -1,4 +1,4 @@
--- `range::mode_limit` meets its contract.
+-- `file_range::mode_limit` meets its contract.
 -- Assumes nothing.
 use borrow.Author.Tests.{eq-eqb, ne-eqb}
 use Rattle.program.specs.WellFormed.{modeLimit}

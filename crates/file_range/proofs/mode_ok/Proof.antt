@@ -1,4 +1,4 @@
--- `range::mode_ok` meets its contract.
+-- `file_range::mode_ok` meets its contract.
 -- Assumes nothing.
 use mathlib.Core.Path.{_≡_, ap}
 use Prim.Native.Nat.{ℕ, suc, _+_}

@@ -1,4 +1,4 @@
--- `range::number_ok` meets its contract.
+-- `file_range::number_ok` meets its contract.
 -- Assumes nothing.
 use borrow.Author.Tests.{eq-eqb, ne-eqb}
 use Rattle.program.specs.WellFormed.{numberTest}

@@ -1,4 +1,4 @@
--- `range::register_ok` meets its contract.
+-- `file_range::register_ok` meets its contract.
 -- Assumes nothing.
 use borrow.Author.Tests.{le-leb, lt-leb}
 use Rattle.program.specs.WellFormed.{registerTest}

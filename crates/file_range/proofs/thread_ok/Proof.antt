@@ -1,4 +1,4 @@
--- `range::thread_ok` meets its contract.
+-- `file_range::thread_ok` meets its contract.
 -- Assumes nothing.
 use borrow.Author.Tests.{eq-eqb, ne-eqb}
 use Rattle.file_range.proofs.thread_ok.Statement.{statement}

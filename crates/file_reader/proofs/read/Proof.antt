@@ -1,4 +1,4 @@
--- `program::read` meets its contract.
+-- `file_reader::read` meets its contract.
 -- Assumes nothing.
 use borrow.Author.Needs.{needs}
 use Rattle.file_cursor.proofs.Cursors.{header-sound, body-sound, whole}

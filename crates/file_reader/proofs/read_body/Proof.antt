@@ -1,4 +1,4 @@
--- `program::read_body` meets its contract.
+-- `file_reader::read_body` meets its contract.
 -- Assumes nothing.
 use borrow.Author.Needs.{needs}
 use Rattle.program.specs.File.{readBody}

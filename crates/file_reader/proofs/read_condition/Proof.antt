@@ -1,4 +1,4 @@
--- `program::read_condition` meets its contract.
+-- `file_reader::read_condition` meets its contract.
 -- Assumes nothing.
 use native.Mathlib.Omega.{arith}
 use borrow.Author.Needs.{needs}

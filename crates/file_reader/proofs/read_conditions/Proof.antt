@@ -1,4 +1,4 @@
--- `program::read_conditions` meets its contract.
+-- `file_reader::read_conditions` meets its contract.
 -- Assumes nothing.
 use mathlib.Core.Path.{_∙_}
 use Prim.Native.Nat.{_-_}

@@ -1,4 +1,4 @@
--- `program::read_end` meets its contract.
+-- `file_reader::read_end` meets its contract.
 -- Assumes nothing.
 use mathlib.Core.Path.{sym, ap, _∙_}
 use borrow.Author.Needs.{needs}

@@ -1,4 +1,4 @@
--- `program::read_question` meets its contract.
+-- `file_reader::read_question` meets its contract.
 -- Assumes nothing.
 use mathlib.Core.Path.{ap, _∙_}
 use native.Mathlib.Omega.{arith}

@@ -1,4 +1,4 @@
--- `program::refuse` meets its contract.
+-- `file_reader::refuse` meets its contract.
 -- Assumes nothing.
 use borrow.Author.Needs.{needs}
 use Rattle.file_reader.proofs.refuse.Statement.{statement}

@@ -1,4 +1,4 @@
--- `program::with_header` meets its contract.
+-- `file_reader::with_header` meets its contract.
 -- Assumes nothing.
 use borrow.Author.Needs.{needs}
 use Rattle.file_reader.proofs.with_header.Statement.{statement}

@@ -1,4 +1,4 @@
--- `thread_records::code_of` meets its contract.
+-- `file_threads::code_of` meets its contract.
 -- Assumes nothing.
 use mathlib.Core.Path.{_≡_}
 use native.Mathlib.Omega.{arith}

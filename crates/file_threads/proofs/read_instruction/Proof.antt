@@ -1,4 +1,4 @@
--- `thread_records::read_instruction` meets its contract.
+-- `file_threads::read_instruction` meets its contract.
 -- Assumes nothing.
 use native.Mathlib.Omega.{arith}
 use borrow.Author.Needs.{needs}

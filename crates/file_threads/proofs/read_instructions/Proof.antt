@@ -1,4 +1,4 @@
--- `thread_records::read_instructions` meets its contract.
+-- `file_threads::read_instructions` meets its contract.
 -- Assumes nothing.
 use mathlib.Core.Path.{_∙_}
 use Prim.Native.Nat.{_-_}

@@ -1,4 +1,4 @@
--- `thread_records::read_thread` meets its contract.
+-- `file_threads::read_thread` meets its contract.
 -- Assumes nothing.
 use mathlib.Core.Path.{ap}
 use Prim.Native.Nat.{_+_}

@@ -1,4 +1,4 @@
--- `thread_records::with_count` meets its contract.
+-- `file_threads::with_count` meets its contract.
 -- Assumes nothing.
 use borrow.Author.Needs.{needs}
 use Rattle.file_threads.proofs.with_count.Statement.{statement}

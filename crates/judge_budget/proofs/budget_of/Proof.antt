@@ -1,4 +1,4 @@
--- `budgets::budget_of` meets its contract.
+-- `judge_budget::budget_of` meets its contract.
 -- Assumes nothing.
 use borrow.Author.Needs.{needs}
 use Rattle.judge_budget.proofs.Reading.{by-word, by-digits}

@@ -1,4 +1,4 @@
--- `budgets::decimal_of` meets its contract.
+-- `judge_budget::decimal_of` meets its contract.
 -- Assumes nothing.
 use Prim.Native.Nat.{_-_}
 use native.Mathlib.Omega.{arith}

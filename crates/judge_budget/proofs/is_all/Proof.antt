@@ -1,4 +1,4 @@
--- `budgets::is_all` meets its contract.
+-- `judge_budget::is_all` meets its contract.
 -- Assumes nothing.
 use mathlib.Core.Path.{refl}
 use borrow.Author.Needs.{needs}

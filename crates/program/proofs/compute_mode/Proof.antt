@@ -1,4 +1,4 @@
--- `source::compute_mode` meets its contract: one case for each number.
+-- `program::compute_mode` meets its contract: one case for each number.
 -- Assumes nothing.
 use borrow.Author.Tests.{ne-eqb}
 use Rattle.program.specs.Program.{computeMode}

@@ -1,4 +1,4 @@
--- `source::load_mode` meets its contract: one case for each number.
+-- `program::load_mode` meets its contract: one case for each number.
 -- Assumes nothing.
 use borrow.Author.Tests.{ne-eqb}
 use Rattle.program.specs.Program.{loadMode}

@@ -1,4 +1,4 @@
--- `source::operand_of` meets its contract: one case for each arm.
+-- `program::operand_of` meets its contract: one case for each arm.
 -- Assumes nothing.
 use borrow.Author.Tests.{eq-eqb, ne-eqb}
 use Rattle.program.specs.Program.{operand}

@@ -1,4 +1,4 @@
--- `loads::load_at` meets its contract: one law of the rules for each answer.
+-- `rules_loads::load_at` meets its contract: one law of the rules for each answer.
 -- Assumes nothing.
 use mathlib.Core.Path.{sym, subst}
 use native.Mathlib.Omega.{arith}

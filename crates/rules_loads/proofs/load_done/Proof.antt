@@ -1,4 +1,4 @@
--- `loads::load_done` meets its contract.
+-- `rules_loads::load_done` meets its contract.
 -- Assumes nothing.
 use native.Mathlib.Omega.{arith}
 use borrow.Author.Needs.{needs}

@@ -1,4 +1,4 @@
--- `loads::load_pre` meets its contract: one case for each mode.
+-- `rules_loads::load_pre` meets its contract: one case for each mode.
 -- Assumes nothing.
 use borrow.Author.Needs.{needs}
 use Rattle.rules_loads.proofs.load_pre.Statement.{statement}

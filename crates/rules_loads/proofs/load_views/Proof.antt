@@ -1,4 +1,4 @@
--- `loads::load_views` meets its contract.
+-- `rules_loads::load_views` meets its contract.
 -- Assumes nothing.
 use Rattle.rules_loads.proofs.load_views.Statement.{statement}
 use Rattle.rules_loads.proofs.load_views.Tie as tie

@@ -1,4 +1,4 @@
--- `loads::none_newer` meets its contract. The loop's invariant: the test of the times up to the first n is the test of
+-- `rules_loads::none_newer` meets its contract. The loop's invariant: the test of the times up to the first n is the test of
 -- the times up to n. The measure is n.
 -- Assumes nothing.
 use mathlib.Core.Path.{_≡_, refl, sym, _∙_}

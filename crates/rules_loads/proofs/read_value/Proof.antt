@@ -1,4 +1,4 @@
--- `loads::read_value` meets its contract: time 0 holds 0.
+-- `rules_loads::read_value` meets its contract: time 0 holds 0.
 -- Assumes nothing.
 use borrow.Author.Tests.{eq-eqb, ne-eqb}
 use Rattle.machine.specs.Rules.{readValue}

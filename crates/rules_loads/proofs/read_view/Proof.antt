@@ -1,4 +1,4 @@
--- `loads::read_view` meets its contract: one case for each arm.
+-- `rules_loads::read_view` meets its contract: one case for each arm.
 -- Assumes nothing.
 use borrow.Author.Tests.{eq-eqb, ne-eqb}
 use borrow.Author.Needs.{needs}

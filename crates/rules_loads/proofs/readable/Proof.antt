@@ -1,4 +1,4 @@
--- `loads::readable` meets its contract: one case for each test.
+-- `rules_loads::readable` meets its contract: one case for each test.
 -- Assumes nothing.
 use borrow.Author.Tests.{eq-eqb, ne-eqb, le-leb, lt-leb}
 use Rattle.machine.specs.Rules.{readable}

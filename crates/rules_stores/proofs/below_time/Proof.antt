@@ -1,4 +1,4 @@
--- `stores::below_time` meets its contract: one case for each arm.
+-- `rules_stores::below_time` meets its contract: one case for each arm.
 -- Assumes nothing.
 use borrow.Author.Tests.{lt-ltb, le-ltb}
 use Rattle.machine.specs.Inner.{belowTime}

@@ -1,4 +1,4 @@
--- `stores::own_at` meets its contract: one law of the rules for each answer.
+-- `rules_stores::own_at` meets its contract: one law of the rules for each answer.
 -- Assumes nothing.
 use Rattle.machine.proofs.Cases.{was-false, was-true, own-28, own-next}
 use borrow.Author.Needs.{needs}

@@ -1,4 +1,4 @@
--- `stores::promised` meets its contract: one case for each test.
+-- `rules_stores::promised` meets its contract: one case for each test.
 -- Assumes nothing.
 use mathlib.Core.Path.{sym, subst}
 use native.Mathlib.Omega.{arith}

@@ -1,4 +1,4 @@
--- `stores::store_at` meets its contract: one law of the rules for each answer.
+-- `rules_stores::store_at` meets its contract: one law of the rules for each answer.
 -- Assumes nothing.
 use native.Mathlib.Omega.{arith}
 use Rattle.machine.proofs.Cases.{was-false, was-true, promised-in, store-26, store-28, store-next}

@@ -1,4 +1,4 @@
--- `stores::store_done` meets its contract.
+-- `rules_stores::store_done` meets its contract.
 -- Assumes nothing.
 use native.Mathlib.Omega.{arith}
 use borrow.Author.Needs.{needs}
@@ -10,6 +10,5 @@ store-done-spec =
     tie.close
     (tie.spec
     (λ c κs. search needs)
-    (λ c κs. tt)
-    (λ c κs. rw (c .with-promises .ensures) (omega arith))
-    (λ c. rw (c .stored .ensures, c .before .with-promises .ensures, c .before .before .without .ensures)))
+    (λ c κs. rw (c .take-out .ensures) (omega arith))
+    (λ c. rw (c .stored .ensures, c .before .take-out .ensures)))

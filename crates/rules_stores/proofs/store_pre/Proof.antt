@@ -1,4 +1,4 @@
--- `stores::store_pre` meets its contract: one case for each mode.
+-- `rules_stores::store_pre` meets its contract: one case for each mode.
 -- Assumes nothing.
 use borrow.Author.Needs.{needs}
 use Rattle.rules_stores.proofs.store_pre.Statement.{statement}

@@ -1,4 +1,4 @@
--- `stores::store_views` meets its contract.
+-- `rules_stores::store_views` meets its contract.
 -- Assumes nothing.
 use Rattle.rules_stores.proofs.store_views.Statement.{statement}
 use Rattle.rules_stores.proofs.store_views.Tie as tie

@@ -1,4 +1,4 @@
--- `stores::stored` meets its contract.
+-- `rules_stores::stored` meets its contract.
 -- Assumes nothing.
 use native.Mathlib.Omega.{arith}
 use borrow.Author.Needs.{needs}

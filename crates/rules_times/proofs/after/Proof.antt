@@ -1,4 +1,4 @@
--- `times::after` meets its contract.
+-- `rules_times::after` meets its contract.
 -- Assumes nothing.
 use borrow.Author.Tests.{eqb-true, eqb-false}
 use mathlib.Core.Path.{refl, sym, _∙_}

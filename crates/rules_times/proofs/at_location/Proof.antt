@@ -1,4 +1,4 @@
--- `times::at_location` meets its contract.
+-- `rules_times::at_location` meets its contract.
 -- Assumes nothing.
 use Rattle.program.proofs.Arrays.{length-mapped}
 use lib.ListN.{length}

@@ -1,4 +1,4 @@
--- `times::at_zero` meets its contract.
+-- `rules_times::at_zero` meets its contract.
 -- Assumes nothing.
 use Rattle.rules_times.proofs.Sets.{store-not-at-0, may-be-at-0}
 use borrow.Author.Needs.{needs}

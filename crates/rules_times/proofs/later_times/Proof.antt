@@ -1,4 +1,4 @@
--- `times::later_times` meets its contract.
+-- `rules_times::later_times` meets its contract.
 -- Assumes nothing.
 use Rattle.rules_times.proofs.Sets.{load-later, store-later, compute-later, branch-later, fence-later}
 use Rattle.machine.specs.Rules.{address}

@@ -1,4 +1,4 @@
--- `arrivals::after_known` meets its contract.
+-- `search_arrivals::after_known` meets its contract.
 -- Assumes nothing.
 use borrow.Author.Tests.{le-leb, lt-leb}
 use Rattle.search_arrivals.proofs.after_known.Statement.{statement}

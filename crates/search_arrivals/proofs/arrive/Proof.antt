@@ -1,4 +1,4 @@
--- `arrivals::arrive` meets its contract.
+-- `search_arrivals::arrive` meets its contract.
 -- Assumes nothing.
 use native.Mathlib.Omega.{arith}
 use borrow.Author.Needs.{needs}

@@ -1,4 +1,4 @@
--- `arrivals::at_end` meets its contract.
+-- `search_arrivals::at_end` meets its contract.
 -- Assumes nothing.
 use mathlib.Core.Path.{sym, ap, _∙_}
 use borrow.Author.Needs.{needs}

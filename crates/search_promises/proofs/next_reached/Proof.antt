@@ -1,4 +1,4 @@
--- `explore::next_reached` meets its contract.
+-- `search_promises::next_reached` meets its contract.
 -- Assumes nothing.
 use borrow.Author.Needs.{needs}
 use Rattle.certify.proofs.Numbers.{only-least, two-least, none-met}

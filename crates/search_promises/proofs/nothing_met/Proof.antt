@@ -1,4 +1,4 @@
--- `explore::nothing_met` meets its contract.
+-- `search_promises::nothing_met` meets its contract.
 -- Assumes nothing.
 use Rattle.search_promises.proofs.nothing_met.Statement.{statement}
 use Rattle.search_promises.proofs.nothing_met.Tie as tie

@@ -1,4 +1,4 @@
--- `explore::reached_after` meets its contract.
+-- `search_promises::reached_after` meets its contract.
 -- Assumes nothing.
 use Rattle.certify.proofs.Trying.{ready-promised, with-room}
 use Rattle.search_promises.specs.Explored.{hole}

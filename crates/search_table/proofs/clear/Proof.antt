@@ -1,4 +1,4 @@
--- `table::clear` meets its contract: the loop sets byte after byte to 0.
+-- `search_table::clear` meets its contract: the loop sets byte after byte to 0.
 -- Assumes nothing.
 use mathlib.Core.Path.{refl}
 use Prim.Native.Nat.{_-_}

@@ -1,4 +1,4 @@
--- `table::hash` is safe and ends.
+-- `search_table::hash` is safe and ends.
 -- Assumes nothing.
 use Prim.Native.Nat.{_-_, _≤_}
 use native.Mathlib.Omega.{arith}

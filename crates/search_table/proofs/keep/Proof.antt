@@ -1,4 +1,4 @@
--- `table::keep` meets its contract: the machine, then the count.
+-- `search_table::keep` meets its contract: the machine, then the count.
 -- Assumes nothing.
 use native.Mathlib.Omega.{arith}
 use borrow.Author.Needs.{needs}

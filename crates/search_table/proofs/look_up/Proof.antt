@@ -1,4 +1,4 @@
--- `table::look_up` meets its contract: the key is the machine's bytes, and a slot that is the same has its count.
+-- `search_table::look_up` meets its contract: the key is the machine's bytes, and a slot that is the same has its count.
 -- Assumes nothing.
 use mathlib.Core.Path.{refl, sym}
 use borrow.Author.Needs.{needs}

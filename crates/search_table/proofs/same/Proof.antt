@@ -1,4 +1,4 @@
--- `table::same` meets its contract: where all bytes count as equal, each is the key's.
+-- `search_table::same` meets its contract: where all bytes count as equal, each is the key's.
 -- Assumes nothing.
 use mathlib.Core.Logic.{⊎-elim}
 use mathlib.Core.Path.{_≡_}

@@ -1,4 +1,4 @@
--- `table::slot_of` meets its contract: a remainder is below the divisor.
+-- `search_table::slot_of` meets its contract: a remainder is below the divisor.
 -- Assumes nothing.
 use native.Mathlib.Nat.{mod-lt}
 use borrow.Author.Needs.{needs}

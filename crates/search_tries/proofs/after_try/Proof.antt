@@ -1,4 +1,4 @@
--- `tries::after_try` meets its contract.
+-- `search_tries::after_try` meets its contract.
 -- Assumes nothing.
 use native.Mathlib.Omega.{arith}
 use Rattle.search_tries.proofs.Worth.{foreseen}

@@ -1,4 +1,4 @@
--- `tries::attempt` meets its contract.
+-- `search_tries::attempt` meets its contract.
 -- Assumes nothing.
 use native.Mathlib.Omega.{arith}
 use borrow.Author.Needs.{needs}

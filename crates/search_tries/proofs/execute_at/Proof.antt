@@ -1,4 +1,4 @@
--- `tries::execute_at` meets its contract.
+-- `search_tries::execute_at` meets its contract.
 -- Assumes nothing.
 use mathlib.Core.Path.{refl}
 use borrow.Author.Needs.{needs}

@@ -1,4 +1,4 @@
--- `tries::narrowed` meets its contract.
+-- `search_tries::narrowed` meets its contract.
 -- Assumes nothing.
 use borrow.Author.Needs.{needs}
 use Rattle.search_tries.proofs.Beaten.{narrowed-none, narrowed-load}

@@ -1,4 +1,4 @@
--- `tries::next_promises` meets its contract.
+-- `search_tries::next_promises` meets its contract.
 -- Assumes nothing.
 use mathlib.Core.Path.{refl}
 use native.Mathlib.Omega.{arith}

@@ -1,4 +1,4 @@
--- `tries::next_time` meets its contract.
+-- `search_tries::next_time` meets its contract.
 -- Assumes nothing.
 use Rattle.search_tries.proofs.Worth.{at-zero-now, after-zero, after-time}
 use borrow.Author.Needs.{needs}

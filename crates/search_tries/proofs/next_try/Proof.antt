@@ -1,4 +1,4 @@
--- `tries::next_try` meets its contract.
+-- `search_tries::next_try` meets its contract.
 -- Assumes nothing.
 use Rattle.search_tries.proofs.Worth.{past-times, at-a-time, after-times}
 use native.Mathlib.Omega.{arith}

@@ -1,4 +1,4 @@
--- `tries::settled` meets its contract.
+-- `search_tries::settled` meets its contract.
 -- Assumes nothing.
 use mathlib.Core.Path.{refl}
 use native.Mathlib.Omega.{arith}

@@ -1,4 +1,4 @@
--- `tries::step_at` meets its contract.
+-- `search_tries::step_at` meets its contract.
 -- Assumes nothing.
 use Rattle.search_tries.proofs.Worth.{at-time, at-key}
 use mathlib.Core.Path.{_∙_}

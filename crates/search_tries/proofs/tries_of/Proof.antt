@@ -1,4 +1,4 @@
--- `tries::tries_of` meets its contract.
+-- `search_tries::tries_of` meets its contract.
 -- Assumes nothing.
 use native.Mathlib.Omega.{arith}
 use lib.Count.{ones-le}

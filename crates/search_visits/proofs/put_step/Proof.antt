@@ -1,4 +1,4 @@
--- `search::visits::put_step` meets its contract.
+-- `search_visits::visits::put_step` meets its contract.
 -- Assumes nothing.
 use Rattle.encode_bytes.proofs.Putting.{put-run}
 use Rattle.step.specs.Trace.{stepBytes}

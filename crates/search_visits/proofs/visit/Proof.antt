@@ -1,4 +1,4 @@
--- `visits::visit` meets its contract.
+-- `search_visits::visit` meets its contract.
 -- Assumes nothing.
 use mathlib.Core.Path.{refl}
 use borrow.Author.Needs.{needs}

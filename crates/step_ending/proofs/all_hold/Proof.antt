@@ -1,4 +1,4 @@
--- `ending::all_hold` meets its contract: the loop has come to condition k, and those before it hold.
+-- `step_ending::all_hold` meets its contract: the loop has come to condition k, and those before it hold.
 -- Assumes nothing.
 use mathlib.Core.Path.{_≡_, refl}
 use Prim.Native.Nat.{_-_}

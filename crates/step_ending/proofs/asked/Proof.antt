@@ -1,4 +1,4 @@
--- `ending::asked` meets its contract: a machine that is not complete decides.
+-- `step_ending::asked` meets its contract: a machine that is not complete decides.
 -- Assumes nothing.
 use mathlib.Core.Path.{sym, _∙_}
 use borrow.Author.Needs.{needs}

@@ -1,4 +1,4 @@
--- `ending::complete` meets its contract.
+-- `step_ending::complete` meets its contract.
 -- Assumes nothing.
 use Rattle.step_ending.proofs.Asking.{thread-done, all-four}
 use Rattle.step.specs.Outcome.{complete}

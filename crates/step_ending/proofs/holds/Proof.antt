@@ -1,4 +1,4 @@
--- `ending::holds` meets its contract: by the kind.
+-- `step_ending::holds` meets its contract: by the kind.
 -- Assumes nothing.
 use borrow.Author.Needs.{needs}
 use Rattle.step_ending.proofs.Asking.{holds-register, holds-last}

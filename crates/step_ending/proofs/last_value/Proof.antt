@@ -1,4 +1,4 @@
--- `ending::last_value` meets its contract: no message after time t is at l.
+-- `step_ending::last_value` meets its contract: no message after time t is at l.
 -- Assumes nothing.
 use native.Mathlib.Omega.{arith}
 use Rattle.step_ending.proofs.Asking.{Older, older-all, older-hit, older-more, older-none}

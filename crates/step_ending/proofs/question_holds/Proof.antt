@@ -1,4 +1,4 @@
--- `ending::question_holds` meets its contract.
+-- `step_ending::question_holds` meets its contract.
 -- Assumes nothing.
 use Rattle.step.specs.Outcome.{questionHolds}
 use Rattle.step_ending.proofs.Asking.{askable}

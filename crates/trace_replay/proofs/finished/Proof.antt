@@ -1,4 +1,4 @@
--- `replay::finished` meets its contract.
+-- `trace_replay::finished` meets its contract.
 -- Assumes nothing.
 use borrow.Author.Needs.{needs}
 use Rattle.trace_replay.proofs.finished.Statement.{statement}

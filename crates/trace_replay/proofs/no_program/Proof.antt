@@ -1,4 +1,4 @@
--- `replay::no_program` meets its contract.
+-- `trace_replay::no_program` meets its contract.
 -- Assumes nothing.
 use borrow.Author.Needs.{needs}
 use Rattle.trace_replay.proofs.no_program.Statement.{statement}

@@ -1,4 +1,4 @@
--- `replay::refused_with` meets its contract.
+-- `trace_replay::refused_with` meets its contract.
 -- Assumes nothing.
 use mathlib.Core.Path.{refl}
 use Rattle.trace_replay.proofs.refused_with.Statement.{statement}

@@ -1,4 +1,4 @@
--- `replay::replay` meets its contract: the program file's answer first.
+-- `trace_replay::replay` meets its contract: the program file's answer first.
 -- Assumes nothing.
 use borrow.Author.Needs.{needs}
 use Rattle.trace_replay.proofs.Files.{good-formed, read-refused, good-replay, refused-replay}

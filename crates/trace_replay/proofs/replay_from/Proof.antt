@@ -1,4 +1,4 @@
--- `replay::replay_from` meets its contract: the replay of the whole is that of the rest.
+-- `trace_replay::replay_from` meets its contract: the replay of the whole is that of the rest.
 -- Assumes nothing.
 use mathlib.Core.Path.{refl, sym, ap, _∙_}
 use Prim.Native.Nat.{_-_}

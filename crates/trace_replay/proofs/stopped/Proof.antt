@@ -1,4 +1,4 @@
--- `replay::stopped` meets its contract.
+-- `trace_replay::stopped` meets its contract.
 -- Assumes nothing.
 use borrow.Author.Needs.{needs}
 use Rattle.trace_replay.proofs.stopped.Statement.{statement}

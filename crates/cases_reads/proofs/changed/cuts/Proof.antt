@@ -1,4 +1,4 @@
--- `reads::changed::cuts` meets its contract.
+-- `cases_reads::changed::cuts` meets its contract.
 -- Assumes nothing.
 use Prim.Native.Nat.{_-_, _≤_}
 use borrow.Author.Needs.{needs}

@@ -1,4 +1,4 @@
--- `reads::changed::sets` meets its contract.
+-- `cases_reads::changed::sets` meets its contract.
 -- Assumes nothing.
 use Prim.Native.Nat.{_-_, _≤_}
 use borrow.Author.Needs.{needs}

@@ -1,4 +1,4 @@
--- `rows::file::add` meets its contract.
+-- `cases_rows::file::add` meets its contract.
 -- Assumes nothing.
 use Prim.Native.Nat.{_-_, _≤_}
 use lib.ListN.{length}

@@ -1,4 +1,4 @@
--- `rows::show::state` meets its contract.
+-- `cases_rows::show::state` meets its contract.
 -- Assumes nothing.
 use Prim.Native.Nat.{_-_, _≤_}
 use borrow.Author.Needs.{needs}

@@ -1,4 +1,4 @@
--- `steps::change::equal_messages` meets its contract.
+-- `cases_steps::change::equal_messages` meets its contract.
 -- Assumes nothing.
 use Prim.Native.Nat.{_-_, _≤_}
 use borrow.Author.Needs.{needs}

@@ -1,4 +1,4 @@
--- `steps::walk::walk` meets its contract.
+-- `cases_steps::walk::walk` meets its contract.
 -- Assumes nothing.
 use Prim.Native.Nat.{_-_, _≤_}
 use lib.ListN.{length}

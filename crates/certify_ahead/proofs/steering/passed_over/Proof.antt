@@ -1,4 +1,4 @@
--- `live::steering::passed_over` meets its contract.
+-- `certify_ahead::steering::passed_over` meets its contract.
 -- Assumes nothing.
 use Prim.Native.Nat.{_-_, _≤_}
 use native.Mathlib.Omega.{arith}

@@ -1,4 +1,4 @@
--- `cares::Cares::and` meets its contract: register by register the cares are joined.
+-- `certify_cares::Cares::and` meets its contract: register by register the cares are joined.
 -- Assumes nothing.
 use mathlib.Core.Path.{_≡_}
 use Prim.Native.Nat.{_-_}

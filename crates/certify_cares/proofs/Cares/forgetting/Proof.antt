@@ -1,4 +1,4 @@
--- `cares::Cares::forgetting` meets its contract.
+-- `certify_cares::Cares::forgetting` meets its contract.
 -- Assumes nothing.
 use borrow.Author.Needs.{needs}
 use Rattle.certify_cares.proofs.Agreeing.{forgotten}

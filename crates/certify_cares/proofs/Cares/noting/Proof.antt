@@ -1,4 +1,4 @@
--- `cares::Cares::noting` meets its contract.
+-- `certify_cares::Cares::noting` meets its contract.
 -- Assumes nothing.
 use mathlib.Core.Path.{_≡_, refl}
 use native.Mathlib.Omega.{arith}

@@ -1,4 +1,4 @@
--- `cares::Cares::of_register` meets its contract.
+-- `certify_cares::Cares::of_register` meets its contract.
 -- Assumes nothing.
 use mathlib.Core.Path.{_≡_, sym}
 use native.Mathlib.Omega.{arith}

@@ -1,4 +1,4 @@
--- `cares::barred::either` meets its contract.
+-- `certify_cares::barred::either` meets its contract.
 -- Assumes nothing.
 use Rattle.certify_cares.proofs.Marks.{marked-left, marked-right}
 use Rattle.certify_cares.proofs.barred.either.Statement.{statement}

@@ -1,4 +1,4 @@
--- `cares::barred::marked` meets its contract.
+-- `certify_cares::barred::marked` meets its contract.
 -- Assumes nothing.
 use borrow.Author.Needs.{needs}
 use borrow.Author.Tests.{eqb-true, eqb-false}

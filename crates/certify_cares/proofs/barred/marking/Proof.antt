@@ -1,4 +1,4 @@
--- `cares::barred::marking` meets its contract.
+-- `certify_cares::barred::marking` meets its contract.
 -- Assumes nothing.
 use Prim.Native.Nat.{_^_}
 use borrow.Author.Needs.{needs}

@@ -1,4 +1,4 @@
--- `cares::barred::turned` meets its contract.
+-- `certify_cares::barred::turned` meets its contract.
 -- Assumes nothing.
 use mathlib.Core.Path.{_≡_, subst}
 use Prim.Native.Nat.{ℕ, _+_, _%_, _<_}

@@ -1,4 +1,4 @@
--- `cares::before::before_branch` meets its contract: an operand that is compared with itself is not noted; else the first is, then the second.
+-- `certify_cares::before::before_branch` meets its contract: an operand that is compared with itself is not noted; else the first is, then the second.
 -- Assumes nothing.
 use Rattle.certify_cares.proofs.Results.{one-operand, way-told}
 use borrow.Author.Needs.{needs}

@@ -1,4 +1,4 @@
--- `cares::before::before_compute` meets its contract: the first operand is noted, then the second.
+-- `certify_cares::before::before_compute` meets its contract: the first operand is noted, then the second.
 -- Assumes nothing.
 use Rattle.program.specs.Program.{computeMode}
 use Rattle.certify_cares.proofs.Results.{result-told}

@@ -1,4 +1,4 @@
--- `cares::before::branch_shares` meets its contract: one case for each return.
+-- `certify_cares::before::branch_shares` meets its contract: one case for each return.
 -- Assumes nothing.
 use mathlib.Core.Path.{ap}
 use mathlib.Core.Bool.{Bool}

@@ -1,4 +1,4 @@
--- `cares::before::compute_shares` meets its contract: one case for each mode.
+-- `certify_cares::before::compute_shares` meets its contract: one case for each mode.
 -- Assumes nothing.
 use Rattle.certify_cares.proofs.Agreeing.{nothing-asked}
 use Rattle.certify_cares.proofs.Results.{is-sum, is-difference, is-exclusive, is-equal, same-equal}

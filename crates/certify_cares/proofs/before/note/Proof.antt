@@ -1,4 +1,4 @@
--- `cares::before::note` meets its contract.
+-- `certify_cares::before::note` meets its contract.
 -- Assumes nothing.
 use mathlib.Core.Path.{_≡_, _∙_}
 use native.Mathlib.Omega.{arith}

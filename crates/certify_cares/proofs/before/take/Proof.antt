@@ -1,4 +1,4 @@
--- `cares::before::take` meets its contract.
+-- `certify_cares::before::take` meets its contract.
 -- Assumes nothing.
 use mathlib.Core.Path.{_≡_, sym, _∙_}
 use native.Mathlib.Omega.{arith}

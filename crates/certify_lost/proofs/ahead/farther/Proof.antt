@@ -1,4 +1,4 @@
--- `lost::ahead::farther` meets its contract: only a branch leads on.
+-- `certify_lost::ahead::farther` meets its contract: only a branch leads on.
 -- Assumes nothing.
 use mathlib.Core.Path.{ap}
 use native.Mathlib.Nat.{le-refl}

@@ -1,4 +1,4 @@
--- `lost::ahead::is_store` meets its contract.
+-- `certify_lost::ahead::is_store` meets its contract.
 -- Assumes nothing.
 use mathlib.Core.Path.{ap, subst}
 use lib.Dec.{T}

@@ -1,4 +1,4 @@
--- `lost::ahead::leaves` meets its contract: one case for each instruction.
+-- `certify_lost::ahead::leaves` meets its contract: one case for each instruction.
 -- Assumes nothing.
 use Rattle.certify_lost.proofs.Leaving.{leaves-same, leaves-load, leaves-store, leaves-fence}
 use borrow.Author.Needs.{needs}

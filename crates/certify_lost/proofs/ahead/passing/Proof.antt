@@ -1,4 +1,4 @@
--- `lost::ahead::passing` meets its contract.
+-- `certify_lost::ahead::passing` meets its contract.
 -- Assumes nothing.
 use mathlib.Core.Path.{refl, sym, subst, _∙_}
 use lib.Dec.{T}

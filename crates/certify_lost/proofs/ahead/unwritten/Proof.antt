@@ -1,4 +1,4 @@
--- `lost::ahead::unwritten` meets its contract.
+-- `certify_lost::ahead::unwritten` meets its contract.
 -- Assumes nothing.
 use mathlib.Core.Path.{sym, subst}
 use native.Mathlib.Omega.{arith}

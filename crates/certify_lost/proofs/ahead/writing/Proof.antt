@@ -1,4 +1,4 @@
--- `lost::ahead::writing` meets its contract.
+-- `certify_lost::ahead::writing` meets its contract.
 -- Assumes nothing.
 use native.Mathlib.Omega.{arith}
 use borrow.Author.Needs.{needs}

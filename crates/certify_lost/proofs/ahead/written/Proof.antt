@@ -1,4 +1,4 @@
--- `lost::ahead::written` meets its contract: one case for each instruction.
+-- `certify_lost::ahead::written` meets its contract: one case for each instruction.
 -- Assumes nothing.
 use mathlib.Core.Path.{subst}
 use Rattle.program.specs.declared.Instr.{Instr}

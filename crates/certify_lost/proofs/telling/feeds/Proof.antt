@@ -1,4 +1,4 @@
--- `lost::telling::feeds` meets its contract.
+-- `certify_lost::telling::feeds` meets its contract.
 -- Assumes nothing.
 use Prim.Native.Nat.{_-_}
 use native.Mathlib.Omega.{arith}

@@ -1,4 +1,4 @@
--- `lost::wanted::filling` meets its contract.
+-- `certify_lost::wanted::filling` meets its contract.
 -- Assumes nothing.
 use mathlib.Core.Path.{_≡_, refl, subst}
 use Prim.Native.Nat.{_/_}

@@ -1,4 +1,4 @@
--- `lost::wanted::in_range` meets its contract.
+-- `certify_lost::wanted::in_range` meets its contract.
 -- Assumes nothing.
 use native.Mathlib.Omega.{arith}
 use borrow.Author.Tests.{ltb-false}

@@ -1,4 +1,4 @@
--- `lost::wanted::out_of_range` meets its contract: one law for each form of the care.
+-- `certify_lost::wanted::out_of_range` meets its contract: one law for each form of the care.
 -- Assumes nothing.
 use native.Mathlib.Omega.{arith}
 use Rattle.certify_lost.proofs.Losing.{not-one, not-below, not-above, not-same}

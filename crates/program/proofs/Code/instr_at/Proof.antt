@@ -1,4 +1,4 @@
--- `source::Code::instr_at` meets its contract: the position is before the thread's end.
+-- `program::Code::instr_at` meets its contract: the position is before the thread's end.
 -- Assumes nothing.
 use borrow.Author.Tests.{lt-ltb}
 use Rattle.program.specs.Program.{instrAt}

@@ -1,4 +1,4 @@
--- `source::Instruction::decode` meets its contract: one case for each op.
+-- `program::Instruction::decode` meets its contract: one case for each op.
 -- Assumes nothing.
 use borrow.Author.Tests.{ne-eqb}
 use Rattle.program.specs.Program.{decode}

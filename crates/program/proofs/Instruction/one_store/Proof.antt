@@ -1,4 +1,4 @@
--- `source::Instruction::one_store` meets its contract.
+-- `program::Instruction::one_store` meets its contract.
 -- Assumes nothing.
 use borrow.Author.Tests.{eq-eqb, ne-eqb}
 use Rattle.program.specs.Counts.{oneStore}

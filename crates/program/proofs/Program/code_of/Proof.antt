@@ -1,4 +1,4 @@
--- `source::Program::code_of` meets its contract.
+-- `program::Program::code_of` meets its contract.
 -- Assumes nothing.
 use mathlib.Core.Path.{_≡_}
 use native.Mathlib.Omega.{arith}

@@ -1,4 +1,4 @@
--- `tries::threads::next_open` meets its contract.
+-- `search_tries::threads::next_open` meets its contract.
 -- Assumes nothing.
 use lib.ListN.{length}
 use native.Mathlib.Omega.{arith}
