@@ -20,7 +20,9 @@ use Rattle.step.specs.Step.{Step}
 use Rattle.step.specs.Outcome.{complete}
 use Rattle.step.specs.Trace.{traceBytes}
 use Rattle.trace_replay.specs.Replay.{ended}
-use Rattle.trace_replay.specs.Answers.{Good, Replayed, replayed, replay}
+use Rattle.trace_replay.specs.declared.ReplayAnswer.the-variants.{Good}
+use Rattle.trace_replay.specs.declared.Replayed.{Replayed}
+use Rattle.trace_replay.specs.Answers.{replayed, replay}
 use Rattle.search_sequences.specs.OfProgram.{stepping, answerTo}
 use Rattle.search_sequences.proofs.Meaning.{demand-3, more-budget-allowed, more-budget-forbidden}
 use Rattle.search_arrivals.proofs.Telling.{trace-length}

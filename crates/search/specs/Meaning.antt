@@ -13,7 +13,8 @@ use Rattle.theory_sequences.specs.Sequences.{Among, Listed, wanted}
 use Rattle.theory_sequences.specs.Answer as answers
 use Rattle.theory_sequences.specs.Demand.{Demand}
 use Rattle.step.specs.Step.{Step}
-use Rattle.trace_replay.specs.Answers.{Good, replay}
+use Rattle.trace_replay.specs.declared.ReplayAnswer.the-variants.{Good}
+use Rattle.trace_replay.specs.Answers.{replay}
 use Rattle.search_sequences.specs.OfProgram.{stepping}
 use Rattle.search.specs.Answers.{Allowed, Answer, answerOf, areaOf, refusal}
 
