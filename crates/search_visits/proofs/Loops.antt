@@ -17,9 +17,9 @@ use Rattle.machine.specs.State.{freshThread, threadOf}
 use Rattle.program.specs.Program.{instrAt, codeOf}
 use Rattle.program.specs.declared.Instr.{Instr}
 use Rattle.program.proofs.Arrays.{getD-any}
-use Rattle.certify.specs.Answers as certified
-use Rattle.certify.proofs.Asked.{program-facts, machine-facts, ready-here}
-use Rattle.certify.proofs.Law.{Sound}
+use Rattle.certify_runs.specs.Inner as certified
+use Rattle.certify_runs.proofs.Ready.{program-facts, machine-facts, ready-here}
+use Rattle.certify_runs.specs.Inner.{Sound}
 use Rattle.encode_bytes.specs.Lists.{put}
 use Rattle.theory_sequences.proofs.Scan.{Scan}
 use Rattle.step.specs.Step.{Step, accepted, rejected, step}

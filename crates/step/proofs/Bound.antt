@@ -16,7 +16,7 @@ use Rattle.machine.specs.State.{freshThread, fresh, threadOf}
 use Rattle.machine.proofs.Sets.{ones-none, ones-with}
 use Rattle.machine.proofs.Effects.{Effect, moves}
 use Rattle.machine.proofs.Formed.{MachineOk, machine-iff}
-use Rattle.certify.proofs.Fit.{outstanding, takes, promises-fit}
+use Rattle.certify_runs.proofs.Fit.{outstanding, takes, promises-fit}
 use Rattle.step.specs.Below.{Code, Program, Instr, Memory, Thread, Machine}
 use Rattle.step.specs.Step.{Step, accepted, step}
 use Rattle.step.proofs.Backwards.{moved, promisedMemory, promisedThread, Did, executed, promised, did}

@@ -8,7 +8,7 @@ use lib.ListN.{set}
 use Rattle.program.specs.Program.{codeOf}
 use Rattle.machine.specs.State.{threadOf, append}
 use Rattle.machine.specs.Rules.{addPromise}
-use Rattle.certify.specs.Certify.{certified}
+use Rattle.certify_runs.specs.Certify.{certified}
 use Rattle.step.specs.Below.{Code, Program, Message, Memory, Thread, Machine}
 use Rattle.step.specs.Step.{Step, Decision, rejected, accepted, settle, executeStep, promiseStep, kindStep}
 pub use Rattle.step.specs.declared.StepAnswer.{StepAnswer}

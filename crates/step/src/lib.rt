@@ -8,7 +8,7 @@ ghost use Prim.Native.Nat.{_+_, _^_, _<_};
 ghost use Rattle.program.specs.Program.{instrAt};
 ghost use Rattle.machine.specs.State.{with, withPromises};
 ghost use Rattle.machine.specs.WellFormed.{Formed};
-ghost use Rattle.certify.specs.Answers.{Ready};
+ghost use Rattle.certify_runs.specs.Inner.{Ready};
 ghost use Rattle.step.specs.Step.{rejected, ruleStep, step};
 ghost use Rattle.step.specs.Answers.{Taken, Refused, stepped, Settles, Executes, Promises, PromisesKept, Moves, Remembers};
 use certify::is_certified;
