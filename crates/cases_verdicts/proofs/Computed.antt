@@ -10,8 +10,8 @@ use Rattle.program.specs.Counts.{oneStore, storesAmong, storesFrom, stores, ins
 use Rattle.program.specs.WellFormed.{modeLimit, modeTest, registerTest, kindTest, numberTest, instructionTest, conditionTest, unusedInstruction, unusedCondition, codeTest, programTest}
 use Rattle.machine.specs.State.{freshThread, fresh, has, with, without}
 use Rattle.machine.specs.Rules.{combine, readable, noneNewer, readValue, loadAt, promised, storeAt, execute}
-use Rattle.certify.specs.Certify.{anyFrom, ownMessage, oneMore, certifiedWithin, certified}
-use Rattle.certify.proofs.Candidates.{relaxed, storesReached, candidates}
+use Rattle.certify_runs.specs.Certify.{anyFrom, ownMessage, oneMore, certifiedWithin, certified}
+use Rattle.certify_runs.proofs.Candidates.{relaxed, storesReached, candidates}
 use Rattle.step.specs.Step.{Step, settle, executeStep, promiseStep, kindStep, ruleStep}
 use Rattle.step.specs.Order.{range, forEach}
 use Rattle.step.specs.Outcome.{complete, lastOf, lastValue, holds, questionHolds, asked}

@@ -1,44 +1,16 @@
--- Certification asked of a program, a machine and a thread by value: what well-formed ones give, and what each test says of the definition.
+-- Certification asked of a program, a machine and a thread by value: what each test says of the definition.
 -- Assumes nothing.
 use mathlib.Core.Path.{_≡_, sym, ap₂, _∙_}
 use mathlib.Core.Bool.{Bool, true, false, _&&_}
 use Prim.Native.Nat.{ℕ, _≤_, _<_}
-use native.Mathlib.Omega.{arith}
-use lib.Dec.{T}
 use borrow.Author.Tests.{lt-ltb, le-ltb}
 use Rattle.program.specs.Program.{codeOf}
 use Rattle.program.specs.WellFormed.{programTest}
-use Rattle.program.proofs.Tests.{and-left, and-right}
-use Rattle.program.proofs.Formed.{ProgramOk, program-ok}
 use Rattle.machine.specs.State.{threadOf}
 use Rattle.machine.specs.WellFormed.{machineTest}
-use Rattle.machine.specs.Inner.{Formed}
-use Rattle.machine.proofs.Formed.{MachineOk, machine-iff}
-use Rattle.certify.specs.Below.{Code, Program, Thread, Machine}
-use Rattle.certify.specs.Certify.{certified}
-use Rattle.certify.specs.Answers.{Certified, Yes, No, Refused, certify, Ready}
-
--- ---- what a well-formed program and machine give
-module _ (p : Program) (x : Machine) where
-  pub formed : (b : Bool) → b ≡ (programTest p && machineTest p x) → b ≡ true → Formed p x
-  formed b e t = record { program-formed = and-left (programTest p) (machineTest p x) both; machine-formed = and-right (programTest p) (machineTest p x) both }
-    where
-      both : T (programTest p && machineTest p x)
-      both = rw (sym e ∙ t) tt
-
-  module _ (o : Formed p x) where
-    pub program-facts : ProgramOk p
-    program-facts = program-ok p (o .program-formed)
-
-    pub machine-facts : MachineOk p x
-    machine-facts = machine-iff p (program-facts .few-threads) x .0 (o .machine-formed)
-
-    module _ (i : ℕ) (h : i < p .threads) where
-      pub of-four : i < 4
-      of-four = let l = program-facts .few-threads in omega arith
-
-      pub ready-here : Ready (codeOf p i) (x .memory) (threadOf x i)
-      ready-here = record { code-ok = program-facts .codes i h; room = machine-facts .memory-ok .room; promises-in = machine-facts .states i h .promises-in }
+use Rattle.certify_runs.specs.Below.{Code, Program, Thread, Machine}
+use Rattle.certify_runs.specs.Certify.{certified}
+use Rattle.certify.specs.Answers.{Certified, Yes, No, Refused, certify}
 
 -- ---- the answers
 module _ (p : Program) (x : Machine) (i : ℕ) (f : Bool) (e : f ≡ (programTest p && machineTest p x)) where

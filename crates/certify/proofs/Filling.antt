@@ -7,14 +7,14 @@ use mathlib.Core.Option.{none, some, Option·some-injective}
 use Prim.Native.Nat.{ℕ, _+_, _-_, _*_, _^_, _≤_, _<_}
 use native.Mathlib.Omega.{arith}
 use lib.Count.{ones}
-use lib.Dec.{T, eqb, ltb, eqb→eq, ltb→lt, lt→ltb}
+use lib.Dec.{T, ltb, eqb→eq, ltb→lt, lt→ltb}
 use lib.ListN.{length}
-use borrow.Author.Tests.{not-true}
 use lib.Seq.{getD-set-same}
+use borrow.Author.Tests.{not-true}
 use Rattle.theory_views.specs.Views.{viewAt}
 use Rattle.program.proofs.Tests.{and-left, and-right, and-both, eq→eqb}
 use Rattle.machine.specs.State.{noMessage, has, without}
-use Rattle.machine.specs.Rules.{next, valueOf, viewOf, address, storePre, storeDone, execute, storeMessage}
+use Rattle.machine.specs.Rules.{next, valueOf, viewOf, storePre, storeDone, execute, storeMessage}
 use Rattle.machine.specs.Inner.{ruled, belowTime}
 use Rattle.machine.specs.declared.RuleAnswer.the-variants.{Done, Refused}
 use Rattle.machine.specs.declared.Ruled.{Ruled}
@@ -22,19 +22,24 @@ use Rattle.machine.proofs.Sets.{has-positive, has-time, ones-without}
 use Rattle.machine.proofs.Words.{ones-eqb}
 use Rattle.machine.proofs.Cases.{was-true, ruled-done, ruled-refused}
 use Rattle.machine.proofs.Effects.{storeLocation, Promised, Effect, computed, loaded, stored, branched, fenced, effect}
+use Rattle.certify_runs.specs.Below.{Code, Operand, StoreMode, Instr, Store, Message, Memory, Thread}
+use Rattle.certify_runs.specs.Certify.{messageOf, onward, certified}
+use Rattle.certify_runs.specs.Inner.{Trying}
+use Rattle.certify_runs.specs.Runs.{done, by, own}
+use Rattle.certify_runs.proofs.Iff.{onward-inv, onward-next, certified-iff}
+use Rattle.certify_runs.proofs.Executes.{executes}
+use Rattle.certify_runs.proofs.Fit.{no-message}
 use Rattle.certify_cares.specs.declared.Cares.{Cares}
-use Rattle.certify.specs.Below.{Code, Operand, StoreMode, Instr, Store, Message, Memory, Thread}
-use Rattle.certify.specs.Certify.{messageOf, onward, certified}
-use Rattle.certify.specs.Answers.{Trying}
-use Rattle.certify.specs.Asks.{Met, meeting, Unmet, Seeks, Repeats, Stores}
-use Rattle.certify.specs.Runs.{done, by, own}
-use Rattle.certify.specs.Sought.{Sought, fill, Fills, Aim, Better, same, more, Meets, Reached, Found, Filled, Keeps}
-use Rattle.certify.specs.Under.{Under, Rests}
-use Rattle.certify.proofs.Iff.{onward-inv, onward-next, certified-iff}
-use Rattle.certify.proofs.Executes.{executes}
-use Rattle.certify.proofs.Fit.{no-message}
-use Rattle.certify.proofs.Numbers.{not-both, met-now, least-passes, zero-sought}
-use Rattle.certify.proofs.Resting.{store-too, store-rests}
+use Rattle.certify_under.specs.Under.{Under, Rests}
+use Rattle.certify_under.proofs.Resting.{store-too, store-rests}
+use Rattle.certify_sought.specs.declared.Met.{Met}
+use Rattle.certify_sought.specs.declared.Sought.{Sought}
+use Rattle.certify_sought.specs.Numbers.{meeting, Unmet, Seeks, Better, same, more}
+use Rattle.certify_sought.specs.Asks.{Repeats, Stores}
+use Rattle.certify_sought.specs.Aim.{fill, Fills, Aim, Meets}
+use Rattle.certify_sought.proofs.Numbers.{not-both, met-now, least-passes, zero-sought}
+use Rattle.certify_tried.specs.declared.Reached.{Reached}
+use Rattle.certify.specs.Search.{Found, Filled, Keeps}
 use Rattle.certify.proofs.Finding.{other, comes-as}
 
 -- what executes with a message of its own fulfils a promise

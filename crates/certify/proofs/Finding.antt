@@ -9,16 +9,19 @@ use Prim.Native.Nat.{ℕ}
 use borrow.Author.Tests.{eqb-false}
 use Rattle.machine.specs.Rules.{refused, next, valueOf, address, execute}
 use Rattle.machine.proofs.Effects.{loadLocation}
+use Rattle.certify_runs.specs.Below.{Code, Operand, StoreMode, Instr, Compute, Load, Store, Branch, Fence, Memory, Thread}
+use Rattle.certify_runs.specs.Runs.{Comes, done, by, own}
 use Rattle.certify_cares.specs.Cares.{Covers}
 use Rattle.certify_cares.specs.declared.Cares.{Cares}
-use Rattle.certify.specs.Below.{Code, Operand, StoreMode, Instr, Compute, Load, Store, Branch, Fence, Memory, Thread}
-use Rattle.certify.specs.Asks.{Met, Sought, Unmet, Elsewhere, StoresSame, LoadsSame, Asks, Likewise}
-use Rattle.certify.specs.Runs.{Comes, done, by, own}
-use Rattle.certify.specs.Sought.{same, Found}
-use Rattle.certify.specs.Straight.{plainly}
-use Rattle.certify.specs.Under.{Under, Rests}
-use Rattle.certify.specs.Vacant.{Vacant}
-use Rattle.certify.proofs.Resting.{load-too-rests, vacant-does, vacant-zero, store-too, store-at}
+use Rattle.certify_under.specs.Under.{Under, Rests}
+use Rattle.certify_under.specs.Vacant.{Vacant}
+use Rattle.certify_under.proofs.Resting.{load-too-rests, vacant-does, vacant-zero, store-too, store-at}
+use Rattle.certify_straight.specs.Straight.{plainly}
+use Rattle.certify_sought.specs.declared.Met.{Met}
+use Rattle.certify_sought.specs.declared.Sought.{Sought}
+use Rattle.certify_sought.specs.Numbers.{Unmet, same}
+use Rattle.certify_sought.specs.Asks.{Elsewhere, StoresSame, LoadsSame, Asks, Likewise}
+use Rattle.certify.specs.Search.{Found}
 
 -- ---- cares that ask more
 pub covers-self : (k : List ℕ) → Covers k k

@@ -13,15 +13,21 @@ use Rattle.program.proofs.Counts.{there}
 use Rattle.program.specs.Inner.{CodeOk}
 use Rattle.machine.specs.Rules.{valueOf, branchBy, branchDone}
 use Rattle.machine.proofs.Effects.{branch-moves}
+use Rattle.certify_runs.specs.Below.{Code, Branch, Memory, Thread}
 use Rattle.certify_cares.specs.Cares.{Covers}
 use Rattle.certify_cares.specs.declared.Cares.{Cares}
-use Rattle.certify.specs.Below.{Code, Branch, Memory, Thread}
-use Rattle.certify.specs.Asks.{Met, Sought, Unmet}
-use Rattle.certify.specs.Sought.{Reached, Meets, Found}
-use Rattle.certify.specs.Straight.{Step, Leads, here, on, atPosition, Forked}
-use Rattle.certify.specs.Under.{Rests}
-use Rattle.certify.proofs.Plain.{leads-back, leads-further, walked-leads, plain-branch}
-use Rattle.certify.proofs.Resting.{branch-rests, other-rests}
+use Rattle.certify_under.specs.Threads.{atPosition}
+use Rattle.certify_under.specs.Under.{Rests}
+use Rattle.certify_under.proofs.Resting.{branch-rests, other-rests}
+use Rattle.certify_straight.specs.Straight.{Step, Leads, here, on, Forked}
+use Rattle.certify_straight.proofs.Plain.{leads-further, walked-leads, plain-branch}
+use Rattle.certify_sought.specs.declared.Met.{Met}
+use Rattle.certify_sought.specs.declared.Sought.{Sought}
+use Rattle.certify_sought.specs.Numbers.{Unmet}
+use Rattle.certify_sought.specs.Aim.{Meets}
+use Rattle.certify_tried.specs.declared.Reached.{Reached}
+use Rattle.certify.specs.Search.{Found}
+use Rattle.certify.proofs.Leading.{leads-back}
 use Rattle.certify.proofs.Finding.{rests-less}
 use Rattle.certify.proofs.Reaching.{straight-better}
 

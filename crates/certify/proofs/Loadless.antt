@@ -8,20 +8,20 @@ use Prim.Native.Nat.{ℕ, _+_, _-_, _≤_}
 use native.Mathlib.Omega.{arith}
 use lib.Dec.{T}
 use lib.ListN.{length, getD, set, length-set}
-use Rattle.program.specs.Program.{instrAt}
 use Rattle.theory_views.proofs.Entries.{set-both}
+use Rattle.program.specs.Program.{instrAt}
 use Rattle.machine.specs.State.{noMessage, messageAt, append, has, with, withPromises}
 use Rattle.machine.specs.Rules.{execute, addPromise}
 use Rattle.machine.proofs.Sets.{has-removed}
 use Rattle.machine.proofs.Effects.{Effect, computed, loaded, stored, branched, fenced, effect, moves}
+use Rattle.certify_runs.specs.Below.{Code, Operand, LoadMode, Instr, Load, Message, Memory, Thread}
+use Rattle.certify_runs.specs.Certify.{certified}
+use Rattle.certify_runs.specs.Runs.{Comes, done, by, own, Fewer}
+use Rattle.certify_runs.proofs.Iff.{onward-inv, onward-next, certified-iff}
+use Rattle.certify_runs.proofs.Fit.{own-effect, own-leaves}
+use Rattle.certify_runs.proofs.Executes.{executes}
 use Rattle.certify_ahead.specs.Loadless.{Loadless}
-use Rattle.certify.specs.Below.{Code, Operand, LoadMode, Instr, Load, Message, Memory, Thread}
-use Rattle.certify.specs.Certify.{certified}
-use Rattle.certify.specs.Runs.{Comes, done, by, own, Fewer}
-use Rattle.certify.specs.Sought.{fill, Fills, Aim, Meets}
-use Rattle.certify.proofs.Iff.{onward-inv, onward-next, certified-iff}
-use Rattle.certify.proofs.Fit.{own-effect, own-leaves}
-use Rattle.certify.proofs.Executes.{executes}
+use Rattle.certify_sought.specs.Aim.{fill, Fills, Aim, Meets}
 
 -- the same number of messages, and the same at the times of the set p
 pub record Kept (m m' : Memory) (p : ℕ) : Type 0 where

@@ -13,19 +13,21 @@ use Rattle.machine.specs.Rules.{next, valueOf, viewOf, storePre, execute, addPr
 use Rattle.machine.proofs.Sets.{has-positive, has-none, has-without}
 use Rattle.machine.proofs.Memories.{message-stays}
 use Rattle.machine.proofs.Effects.{storeLocation, Effect, computed, loaded, stored, branched, fenced, effect}
+use Rattle.certify_runs.specs.Below.{Code, Operand, StoreMode, Instr, Compute, Load, Store, Branch, Fence, Message, Memory, Thread}
+use Rattle.certify_runs.specs.Certify.{messageOf, certified}
+use Rattle.certify_runs.specs.Runs.{Comes, done, by, own}
+use Rattle.certify_runs.proofs.Iff.{onward-inv, certified-iff}
+use Rattle.certify_runs.proofs.Fit.{no-message, own-effect, own-leaves}
 use Rattle.certify_cares.specs.declared.Cares.{Cares}
 use Rattle.certify_lost.specs.declared.wanted.Wanted.{Wanted}
 use Rattle.certify_lost.specs.Lost.{Goes, start, Fits, Misses, late, elsewhere, other, Lost, Above, Filling, PromiseLost, HoleLost, Fruitless}
 use Rattle.certify_lost.proofs.Lower.{store-pre-low}
 use Rattle.certify_lost.proofs.Going.{lower-self, arrives-from}
-use Rattle.certify.specs.Below.{Code, Operand, StoreMode, Instr, Compute, Load, Store, Branch, Fence, Message, Memory, Thread}
-use Rattle.certify.specs.Certify.{messageOf, certified}
-use Rattle.certify.specs.Asks.{Unmet}
-use Rattle.certify.specs.Runs.{Comes, done, by, own}
-use Rattle.certify.specs.Sought.{Sought, fill, Aim, Meets, Found}
-use Rattle.certify.specs.Under.{Rests}
-use Rattle.certify.proofs.Iff.{onward-inv, certified-iff}
-use Rattle.certify.proofs.Fit.{no-message, own-effect, own-leaves}
+use Rattle.certify_under.specs.Under.{Rests}
+use Rattle.certify_sought.specs.declared.Sought.{Sought}
+use Rattle.certify_sought.specs.Numbers.{Unmet}
+use Rattle.certify_sought.specs.Aim.{fill, Aim, Meets}
+use Rattle.certify.specs.Search.{Found}
 use Rattle.certify.proofs.Finding.{found-none}
 use Rattle.certify.proofs.Filling.{fills-out}
 

@@ -21,21 +21,31 @@ use Rattle.machine.specs.declared.RuleAnswer.the-variants.{Refused}
 use Rattle.machine.specs.declared.Ruled.{Ruled}
 use Rattle.machine.proofs.Cases.{ruled-refused}
 use Rattle.machine.proofs.Effects.{loadLocation, effect, effect-time}
+use Rattle.certify_runs.specs.Below.{Code, Operand, LoadMode, StoreMode, Instr, Compute, Load, Store, Branch, Fence, Memory, Thread}
+use Rattle.certify_runs.specs.Inner.{Trying}
+use Rattle.certify_runs.specs.Runs.{done, by}
+use Rattle.certify_runs.proofs.Fit.{comes-fit}
 use Rattle.certify_cares.specs.Cares as cares
 use Rattle.certify_cares.specs.Cares.{Agrees, careOf, Agreeing, AgreeingBut, Covers}
-use Rattle.certify.specs.Below.{Code, Operand, LoadMode, StoreMode, Instr, Compute, Load, Store, Branch, Fence, Memory, Thread}
-use Rattle.certify.specs.Answers.{Trying, Earliest, Following}
-use Rattle.certify.specs.Asks.{Met, Unmet, Likewise}
-use Rattle.certify.specs.Runs.{done, by}
-use Rattle.certify.specs.Sought.{Sought, Tried, Reached, Better, same, Emptied, Meets, Found, Hopeless, Failed, Knows, Fails, Missed, Through, Went, Noted}
-use Rattle.certify.specs.Straight.{plainly}
-use Rattle.certify.specs.Tries.{countedAt, Vain}
-use Rattle.certify.specs.Under.{Rests}
-use Rattle.certify.specs.Vacant.{Vacant, cohering, Idles}
-use Rattle.certify.proofs.Fit.{comes-fit}
-use Rattle.certify.proofs.Numbers.{narrows, better-as, emptied-better, emptied-now}
-use Rattle.certify.proofs.Asking.{load-same, load-not-store}
-use Rattle.certify.proofs.Resting.{load-rests, vacant-zero, idle-rests, store-rests}
+use Rattle.certify_under.specs.Under.{Rests}
+use Rattle.certify_under.specs.Vacant.{Vacant}
+use Rattle.certify_under.specs.Threads.{cohering}
+use Rattle.certify_under.proofs.Resting.{load-rests, vacant-zero, idle-rests, store-rests}
+use Rattle.certify_straight.specs.Straight.{plainly}
+use Rattle.certify_window.specs.Window.{Earliest, Following}
+use Rattle.certify_window.specs.Idle.{Idles}
+use Rattle.certify_vain.specs.Tries.{countedAt, Vain}
+use Rattle.certify_sought.specs.declared.Met.{Met}
+use Rattle.certify_sought.specs.declared.Sought.{Sought}
+use Rattle.certify_sought.specs.Numbers.{Unmet, Better, same, Emptied}
+use Rattle.certify_sought.specs.Asks.{Likewise}
+use Rattle.certify_sought.specs.Aim.{Meets}
+use Rattle.certify_sought.proofs.Numbers.{narrows, better-as, emptied-better, emptied-now}
+use Rattle.certify_sought.proofs.Asking.{load-same, load-not-store}
+use Rattle.certify_tried.specs.declared.Tried.{Tried}
+use Rattle.certify_tried.specs.declared.Reached.{Reached}
+use Rattle.certify_tried.specs.Tried.{Hopeless, Noted}
+use Rattle.certify.specs.Search.{Found, Failed, Knows, Fails, Missed, Through, Went}
 use Rattle.certify.proofs.Filling.{only-zero}
 use Rattle.certify.proofs.Finding.{covers-self, rests-less, other, no-thread-left, likewise-less, loads-vacant, does-too}
 use Rattle.certify.proofs.Stores.{aim-fits}

@@ -22,18 +22,23 @@ use Rattle.machine.proofs.Cases.{ruled-done, ruled-refused}
 use Rattle.machine.proofs.Memories.{message-stays}
 use Rattle.machine.proofs.Sets.{has-positive, has-time}
 use Rattle.machine.proofs.Effects.{effect, moves}
+use Rattle.certify_runs.specs.Below.{Code, Operand, Constant, OfRegister, StoreMode, Instr, Compute, Load, Store, Branch, Fence, Message, Memory, Thread}
+use Rattle.certify_runs.specs.Certify.{messageOf}
+use Rattle.certify_runs.proofs.Fit.{no-message, own-effect, own-leaves, comes-fit}
 use Rattle.certify_ahead.specs.Loadless.{Loadless}
 use Rattle.certify_cares.specs.Cares.{Agrees, Agreeing, Covers}
 use Rattle.certify_cares.specs.declared.Cares.{Cares}
 use Rattle.certify_cares.proofs.Agreeing.{same-value, same-address}
-use Rattle.certify.specs.Below.{Code, Operand, Constant, OfRegister, StoreMode, Instr, Compute, Load, Store, Branch, Fence, Message, Memory, Thread}
-use Rattle.certify.specs.Certify.{messageOf}
-use Rattle.certify.specs.Asks.{Met, Unmet}
-use Rattle.certify.specs.Sought.{Sought, Reached, Better, Meets, Owns, Found, Appends}
-use Rattle.certify.specs.Under.{Rests}
-use Rattle.certify.proofs.Fit.{no-message, own-effect, own-leaves, comes-fit}
-use Rattle.certify.proofs.Resting.{promise-rests, store-too, store-rests}
-use Rattle.certify.proofs.Numbers.{better-as}
+use Rattle.certify_under.specs.Under.{Rests}
+use Rattle.certify_under.proofs.Resting.{promise-rests, store-too, store-rests}
+use Rattle.certify_sought.specs.declared.Met.{Met}
+use Rattle.certify_sought.specs.declared.Sought.{Sought}
+use Rattle.certify_sought.specs.Numbers.{Unmet, Better}
+use Rattle.certify_sought.specs.Aim.{Meets}
+use Rattle.certify_sought.proofs.Numbers.{better-as}
+use Rattle.certify_tried.specs.declared.Reached.{Reached}
+use Rattle.certify_tried.specs.Tried.{Appends}
+use Rattle.certify.specs.Search.{Owns, Found}
 use Rattle.certify.proofs.Finding.{rests-less, found-none, other}
 use Rattle.certify.proofs.Stores.{aim-fits}
 use Rattle.certify.proofs.Loadless.{Kept, loadless-law}

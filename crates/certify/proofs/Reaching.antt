@@ -17,19 +17,25 @@ use Rattle.machine.specs.declared.RuleAnswer.the-variants.{Done}
 use Rattle.machine.specs.declared.Ruled.{Ruled}
 use Rattle.machine.proofs.Cases.{ruled-done}
 use Rattle.machine.proofs.Effects.{effect, effect-time, moves}
+use Rattle.certify_runs.specs.Below.{Code, Operand, StoreMode, Instr, Store, Message, Memory, Thread}
+use Rattle.certify_runs.specs.Certify.{messageOf, certified}
+use Rattle.certify_runs.specs.Inner.{Trying}
+use Rattle.certify_runs.specs.Runs.{done, by, own}
 use Rattle.certify_cares.specs.Cares.{Agreeing, Covers}
 use Rattle.certify_cares.specs.declared.Cares.{Cares}
-use Rattle.certify.specs.Below.{Code, Operand, StoreMode, Instr, Store, Message, Memory, Thread}
-use Rattle.certify.specs.Certify.{messageOf, certified}
-use Rattle.certify.specs.Answers.{Trying}
-use Rattle.certify.specs.Runs.{done, by, own}
-use Rattle.certify.specs.Asks.{Unmet, Seeks, Asks, Repeats}
-use Rattle.certify.specs.Sought.{Met, Sought, Tried, Reached, Fills, Better, same, Twice, Emptied, Meets, Owns, Found, Unkept, Filled, Missed, Through}
-use Rattle.certify.specs.Straight.{Leads}
-use Rattle.certify.specs.Under.{Rests}
-use Rattle.certify.proofs.Numbers.{narrows, better-on, better-as, least-passes, zero-sought, emptied-better, emptied-now}
-use Rattle.certify.proofs.Plain.{leads-there, leads-back}
-use Rattle.certify.proofs.Resting.{rests-self}
+use Rattle.certify_under.specs.Under.{Rests}
+use Rattle.certify_under.proofs.Resting.{rests-self}
+use Rattle.certify_straight.specs.Straight.{Leads}
+use Rattle.certify_sought.specs.declared.Met.{Met}
+use Rattle.certify_sought.specs.declared.Sought.{Sought}
+use Rattle.certify_sought.specs.Numbers.{Unmet, Seeks, Better, same, Twice, Emptied}
+use Rattle.certify_sought.specs.Asks.{Asks, Repeats}
+use Rattle.certify_sought.specs.Aim.{Fills, Meets}
+use Rattle.certify_sought.proofs.Numbers.{narrows, better-on, better-as, least-passes, zero-sought, emptied-better, emptied-now}
+use Rattle.certify_tried.specs.declared.Tried.{Tried}
+use Rattle.certify_tried.specs.declared.Reached.{Reached}
+use Rattle.certify.specs.Search.{Owns, Found, Unkept, Filled, Missed, Through}
+use Rattle.certify.proofs.Leading.{leads-there, leads-back}
 use Rattle.certify.proofs.Finding.{rests-less, asked-likewise}
 use Rattle.certify.proofs.Filling.{fills-out, meets-certified, certified-meets, only-zero}
 

@@ -1,25 +1,20 @@
 -- Stores enough: where what is sought is met, no more promises are outstanding than stores are left.
 -- Assumes nothing.
-use mathlib.Core.Path.{_≡_, sym, ap, _∙_, subst}
+use mathlib.Core.Path.{ap}
 use mathlib.Core.Logic.{inl, inr}
-use mathlib.Core.Bool.{Bool, true}
-use Prim.Native.Nat.{ℕ, suc, _≤_, _<_}
+use Prim.Native.Nat.{ℕ, suc, _≤_}
 use native.Mathlib.Omega.{arith}
 use lib.Count.{ones}
-use lib.Dec.{T, ltb, ltb→lt}
 use Rattle.program.specs.Counts.{storesFrom}
 use Rattle.program.proofs.Counts.{stores-past, stores-fall}
 use Rattle.machine.specs.Rules.{execute}
 use Rattle.machine.proofs.Sets.{ones-none}
 use Rattle.machine.proofs.Effects.{effect, moves}
-use Rattle.certify.specs.Below.{Code, Memory, Thread}
-use Rattle.certify.specs.Certify.{certified}
-use Rattle.certify.specs.Sought.{fill, Aim}
-use Rattle.certify.proofs.Iff.{onward-inv}
-use Rattle.certify.proofs.Fit.{takes, promises-fit}
-
-pub crowds : (n p : ℕ) (b : Bool) → b ≡ ltb n p → b ≡ true → n < p
-crowds n p b e z = ltb→lt n p (subst T (sym (sym e ∙ z)) tt)
+use Rattle.certify_runs.specs.Below.{Code, Memory, Thread}
+use Rattle.certify_runs.specs.Certify.{certified}
+use Rattle.certify_runs.proofs.Iff.{onward-inv}
+use Rattle.certify_runs.proofs.Fit.{takes, promises-fit}
+use Rattle.certify_sought.specs.Aim.{fill, Aim}
 
 pub aim-fits : (c : Code) (i h k : ℕ) (m : Memory) (s : Thread) → Aim c i h k m s → ones (s .promises) ≤ storesFrom c (s .position)
 aim-fits c i h k m s (inl p) = let z = ones-none in let f = ap ones (p .2) in omega arith

@@ -16,15 +16,17 @@ use Rattle.machine.specs.Rules.{next, valueOf, viewOf, viewOf₂, computeDone, 
 use Rattle.machine.proofs.Sets.{has-positive}
 use Rattle.machine.proofs.Memories.{message-stays}
 use Rattle.machine.proofs.Effects.{loadLocation, loadPreView, loadPostView, storeLocation, Promised, Effect, computed, loaded, stored, branched, fenced, effect}
-use Rattle.certify.specs.Below.{Code, Operand, Constant, OfRegister, ComputeMode, LoadMode, StoreMode, Instr, Compute, Load, Store, Branch, Fence, Message, Memory, Thread}
-use Rattle.certify.specs.Certify.{messageOf, certified}
-use Rattle.certify.specs.Runs.{Comes, done, by, own}
-use Rattle.certify.specs.Sought.{fill, Fills, Aim, Meets}
-use Rattle.certify.specs.Vacant.{Vacant, cohering, Idles}
-use Rattle.certify.proofs.Iff.{onward-inv, onward-next, certified-iff}
-use Rattle.certify.proofs.Fit.{no-message}
-use Rattle.certify.proofs.Executes.{executes}
-use Rattle.certify.proofs.Resting.{none-newer}
+use Rattle.certify_runs.specs.Below.{Code, Operand, Constant, OfRegister, ComputeMode, LoadMode, StoreMode, Instr, Compute, Load, Store, Branch, Fence, Message, Memory, Thread}
+use Rattle.certify_runs.specs.Certify.{messageOf, certified}
+use Rattle.certify_runs.specs.Runs.{Comes, done, by, own}
+use Rattle.certify_runs.proofs.Iff.{onward-inv, onward-next, certified-iff}
+use Rattle.certify_runs.proofs.Fit.{no-message}
+use Rattle.certify_runs.proofs.Executes.{executes}
+use Rattle.certify_under.specs.Vacant.{Vacant}
+use Rattle.certify_under.specs.Threads.{cohering}
+use Rattle.certify_under.proofs.Resting.{none-newer}
+use Rattle.certify_window.specs.Idle.{Idles}
+use Rattle.certify_sought.specs.Aim.{fill, Fills, Aim, Meets}
 use Rattle.certify.proofs.Filling.{fills-out}
 
 -- ---- lists of views, one of them replaced

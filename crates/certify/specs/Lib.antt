@@ -1,11 +1,2 @@
-pub mod Below
-pub mod Certify
-pub mod Runs
 pub mod Answers
-pub mod Under
-pub mod Straight
-pub mod Vacant
-pub mod Blind
-pub mod Asks
-pub mod Tries
-pub mod Sought
+pub mod Search

@@ -1,42 +1,48 @@
 // What the runs of a thread alone come to: one search of them, times ascending, for all that asks; and what a failure rests on.
 ghost use mathlib.Core.Path.{_≡_};
 ghost use mathlib.Core.Bool.{true, false};
-ghost use Prim.Native.Nat.{_≤_, _<_};
+ghost use Prim.Native.Nat.{_≤_};
+ghost use Rattle.certify_runs.specs.Inner.{Ready, Trying};
 ghost use Rattle.certify_cares.specs.Cares.{Covers};
-ghost use Rattle.certify.specs.Answers.{Ready, Trying};
-ghost use Rattle.certify.specs.Asks.{Stores};
-ghost use Rattle.certify.specs.Straight.{Forked, Walked};
-ghost use Rattle.certify.specs.Sought.{Meets, Owns, Twice, Found, Unkept, Filled, Keeps, Appends, Knows, Went};
-use crate::Met;
-use crate::Sought;
-use crate::asks::asks;
-use crate::blind::Blind;
-use crate::blind::told;
-use crate::blind::unknown;
-use crate::blind::unread;
-use crate::blind::worth_a_look;
-use crate::blind::worth_asking;
-use crate::goal::emptied;
-use crate::goal::fill;
-use crate::goal::kept;
-use crate::idle::idle;
-use crate::idle::lowered;
+ghost use Rattle.certify_straight.specs.Straight.{Forked, Walked};
+ghost use Rattle.certify_sought.specs.Asks.{Stores};
+ghost use Rattle.certify_sought.specs.Aim.{Meets};
+ghost use Rattle.certify_sought.specs.Numbers.{Twice};
+ghost use Rattle.certify_tried.specs.Tried.{Appends};
+ghost use Rattle.certify.specs.Search.{Owns, Found, Unkept, Filled, Keeps, Knows, Went};
 use crate::own_message;
-use crate::straight::Walk;
-use crate::straight::at_position;
-use crate::straight::before_straight;
-use crate::straight::halts;
-use crate::straight::straight;
-use crate::tried::appends;
-use crate::tried::hopeless;
-use crate::tried::noted;
-use crate::tried::untried;
-use crate::window::earliest;
-use crate::window::following;
 use certify_ahead::loads_ahead;
 use certify_cares::Cares;
 use certify_cares::barring;
 use certify_lost::fruitless;
+use certify_lost::wanted::number_of;
+use certify_sought::Met;
+use certify_sought::Sought;
+use certify_sought::asks::asks;
+use certify_sought::goal::emptied;
+use certify_sought::goal::fill;
+use certify_sought::goal::kept;
+use certify_straight::Walk;
+use certify_straight::at_position;
+use certify_straight::before_straight;
+use certify_straight::halts;
+use certify_straight::straight;
+use certify_tried::Reached;
+use certify_tried::Tried;
+use certify_tried::appends;
+use certify_tried::blind::Blind;
+use certify_tried::blind::told;
+use certify_tried::blind::unknown;
+use certify_tried::blind::unread;
+use certify_tried::blind::worth_a_look;
+use certify_tried::blind::worth_asking;
+use certify_tried::hopeless;
+use certify_tried::noted;
+use certify_tried::untried;
+use certify_window::earliest;
+use certify_window::following;
+use certify_window::idle::idle;
+use certify_window::idle::lowered;
 use machine::Memory;
 use machine::RuleAnswer;
 use machine::Thread;
@@ -47,23 +53,6 @@ use rules::execute;
 use rules::operands::view_of;
 use rules::own_store;
 use rules_stores::below_time;
-
-// The two least numbers met; and what it rests on that no other is met that is sought.
-pub struct Reached {
-    pub met: Met,
-    pub cares: Cares,
-}
-
-// After some tries of an instruction: the numbers met; how many tries were made, two for more; what they rest on; for each time at which a load
-// was tried how much of what it left in its register counted, 3 for the others; and whether they are apart: the tries of a load of a location
-// without a message tell of those of all such locations.
-pub struct Tried {
-    pub met: Met,
-    pub tries: u8,
-    pub cares: Cares,
-    pub counted: [u32; 17],
-    pub apart: bool,
-}
 
 // The two least numbers that runs from here come to, of those that are sought.
 pub fn two_reached(c: Code, i: u8, m: Memory, s: Thread, q: Sought) -> Met
@@ -232,7 +221,7 @@ fn filled(c: Code, i: u8, m: Memory, s: Thread, x: Instr, q: Sought) -> Reached
     match x {
         Instr::Store(how, a, d) => {
             let w = own_message(i, a, d, s);
-            let number = 256 * w.location as u16 + w.value as u16;
+            let number = number_of(w.location, w.value);
             if !q.seeks(number) {
                 return none;
             }

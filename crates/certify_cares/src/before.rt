@@ -1,12 +1,11 @@
 // What a failure rests on before an instruction that has one way to go on, by what it rests on after it. The cares are changed in place.
 ghost use mathlib.Core.Path.{_≡_};
-ghost use mathlib.Core.Bool.{true};
 ghost use Prim.Native.Nat.{ℕ};
 ghost use lib.Dec.{eqb};
 ghost use lib.ListN.{length};
 ghost use Rattle.program.specs.Program.{operand, computeMode};
 ghost use Rattle.program.specs.declared.ComputeMode.the-variants.{Add, Subtract, ExclusiveOr};
-ghost use Rattle.machine.specs.Rules.{address, valueOf, combine, branchBy};
+ghost use Rattle.machine.specs.Rules.{valueOf, combine, branchBy};
 ghost use Rattle.certify_cares.specs.Cares.{Agrees, careOf, Agreeing, AgreeingBut, firstOf, secondOf, noStep, Tells};
 use crate::barred::turned;
 use crate::barring;

@@ -1,7 +1,7 @@
 // Messages that are wanted of a store, and the cares for values that are not.
 ghost use mathlib.Core.Path.{_≡_};
 ghost use mathlib.Core.Bool.{false};
-ghost use Prim.Native.Nat.{ℕ, _<_};
+ghost use Prim.Native.Nat.{ℕ, _+_, _*_, _<_};
 ghost use Rattle.certify_cares.specs.Cares.{Agrees};
 ghost use Rattle.certify_lost.specs.Lost.{InRange, Filling};
 use certify_cares::barred::marking;
@@ -39,6 +39,13 @@ pub fn out_of_range(v: u8, w: Wanted) -> u32
         return 512 + w.high as u32;
     }
     2
+}
+
+// The number by which a store of value v to l fills the hole.
+pub fn number_of(l: u8, v: u8) -> u16
+    ensures { λ r. ⌜ r ≡ 256 * l + v ⌝ }
+{
+    256 * l as u16 + v as u16
 }
 
 // The message that fills the hole by a number 256 · l + v from `from` on and below `top`. If these are at several locations, any location and

@@ -22,7 +22,7 @@ use Rattle.search_table.specs.Table.{EverySlot, slotWith, Sought}
 use Rattle.search_table.specs.declared.Seen.{Seen}
 use Rattle.search_table.proofs.Laws.{hit, holds-kept}
 use Rattle.search_arrivals.proofs.Telling.{went-on}
-use Rattle.step.proofs.Bound.{potential}
+use Rattle.step.specs.Inner.{potential}
 use Rattle.search_sequences.specs.OfProgram.{stepping}
 use Rattle.search_sequences.proofs.Machine.{lawful}
 use Rattle.search_arrivals.specs.Visits.{Ran, Going, Arrival, Over, Open, visiting, afterKnown, Reports, Known, Opens, Arrives}

@@ -19,7 +19,7 @@ use Rattle.program.specs.Program.{codeOf}
 use Rattle.program.proofs.Tests.{and-left, below-at}
 use Rattle.program.proofs.Shape.{program-iff}
 use Rattle.machine.specs.Inner.{Formed}
-use Rattle.certify.proofs.Asked.{program-facts}
+use Rattle.certify_runs.proofs.Ready.{program-facts}
 use Rattle.encode_bytes.specs.Inner.{put}
 use Rattle.encode_bytes.proofs.Putting.{put-none}
 use Rattle.theory_sequences.proofs.Scan.{found-short}

@@ -14,7 +14,7 @@ use Rattle.theory_sequences.specs.Demand.{NoneWanted}
 use Rattle.theory_sequences.specs.Scan.{Scan, going, found, out, scan}
 use Rattle.step.specs.Step.{Step}
 use Rattle.step.specs.Trace.{traceBytes}
-use Rattle.step.proofs.Bound.{potential}
+use Rattle.step.specs.Inner.{potential}
 use Rattle.encode_bytes.specs.Inner.{put}
 use Rattle.search_sequences.specs.OfProgram.{stepping}
 use Rattle.search_tries.specs.Steps.{NextOpen}

@@ -12,15 +12,15 @@ use Rattle.theory_views.proofs.Merging.{raise-up}
 use Rattle.machine.specs.State.{messageAt, append}
 use Rattle.machine.specs.Rules.{next, valueOf, execute, addPromise}
 use Rattle.machine.proofs.Effects.{loadLocation, storeLocation, Effect, computed, loaded, stored, branched, fenced, effect, read-there}
-use Rattle.certify.specs.Below.{Code, Instr, Message, Memory, Thread}
-use Rattle.certify.specs.Certify.{messageOf, certified}
-use Rattle.certify.specs.Runs.{done, by, own, Certifying}
-use Rattle.certify.specs.Sought.{fill, Fills, Meets}
+use Rattle.certify_runs.specs.Below.{Code, Instr, Message, Memory, Thread}
+use Rattle.certify_runs.specs.Certify.{messageOf, certified}
+use Rattle.certify_runs.specs.Runs.{done, by, own, Certifying}
+use Rattle.certify_sought.specs.Aim.{fill, Fills, Meets}
 use Rattle.search_promises.specs.Explored.{Fillable}
-use Rattle.certify.proofs.Iff.{onward-inv, certified-iff}
-use Rattle.certify.proofs.Fit.{no-message, own-effect}
-use Rattle.certify.proofs.Law.{Sound}
-use Rattle.certify.proofs.Executes.{executes}
+use Rattle.certify_runs.proofs.Iff.{onward-inv, certified-iff}
+use Rattle.certify_runs.proofs.Fit.{no-message, own-effect}
+use Rattle.certify_runs.specs.Inner.{Sound}
+use Rattle.certify_runs.proofs.Executes.{executes}
 use Rattle.search_promises.proofs.Law.{Same, turned, carry, carry-all, same-filled, own-carried, same-run, Open, positive, open-after, open-own, Hole, hole-stays, promise, promise-same, promise-hole, promise-open}
 
 -- ---- a run that has come up to the hole's time at a location cannot fill the hole there

@@ -21,16 +21,17 @@ use Rattle.machine.specs.Rules.{valueOf, viewOf₂, address, advance, newer, re
 use Rattle.machine.proofs.Sets.{has-positive, has-none, has-without, has-with, with-without}
 use Rattle.machine.proofs.Memories.{message-stays, message-new}
 use Rattle.machine.proofs.Effects.{loadLocation, loadPreView, loadPostView, Promised, Effect, computed, loaded, stored, branched, fenced, effect, read-there, effect-time}
-use Rattle.certify.specs.Below.{Code, Operand, LoadMode, Instr, Compute, Load, Store, Branch, Fence, Message, Memory, Forward, Thread}
-use Rattle.certify.specs.Certify.{messageOf, certified}
-use Rattle.certify.specs.Runs.{done, by, own, Certifying}
-use Rattle.certify.specs.Sought.{fill, Fills, Meets}
+use Rattle.certify_runs.specs.Below.{Code, Operand, LoadMode, Instr, Compute, Load, Store, Branch, Fence, Message, Memory, Forward, Thread}
+use Rattle.certify_runs.specs.Certify.{messageOf, certified}
+use Rattle.certify_runs.specs.Runs.{done, by, own, Certifying}
+use Rattle.certify_sought.specs.Aim.{fill, Fills, Meets}
 use Rattle.search_promises.specs.Explored.{hole, Fillable}
-use Rattle.certify.proofs.Iff.{onward-next, certified-iff}
-use Rattle.certify.proofs.Fit.{Owned, owned, no-message, own-effect}
-use Rattle.certify.proofs.Dead.{dead-ends}
-use Rattle.certify.proofs.Law.{read-view, Sound}
-use Rattle.certify.proofs.Executes.{executes}
+use Rattle.certify_runs.proofs.Iff.{onward-next, certified-iff}
+use Rattle.certify_runs.proofs.Fit.{Owned, owned, no-message, own-effect}
+use Rattle.certify_runs.proofs.Dead.{dead-ends}
+use Rattle.certify_runs.proofs.Law.{read-view}
+use Rattle.certify_runs.specs.Inner.{Sound}
+use Rattle.certify_runs.proofs.Executes.{executes}
 
 -- ---- two memories that are the same but at time h
 -- messages of one location and value; no rule reads their threads

@@ -7,7 +7,7 @@ use Rattle.machine.specs.declared.Memory.{Memory}
 use Rattle.machine.specs.declared.Thread.{Thread}
 use Rattle.machine.specs.State.{append}
 use Rattle.machine.specs.Rules.{addPromise}
-use Rattle.certify.specs.Sought.{Meets}
+use Rattle.certify_sought.specs.Aim.{Meets}
 
 -- a message at no location: no load can read it
 abbrev pub hole : Message

@@ -3,12 +3,12 @@
 ghost use mathlib.Core.Path.{_≡_};
 ghost use mathlib.Core.Bool.{cond};
 ghost use Prim.Native.Nat.{_<_};
-ghost use Rattle.certify.specs.Answers.{Ready};
-ghost use Rattle.certify.specs.Sought.{Twice, LeastOrTwo};
+ghost use Rattle.certify_runs.specs.Inner.{Ready};
+ghost use Rattle.certify_sought.specs.Numbers.{Twice, LeastOrTwo};
 ghost use Rattle.search_promises.specs.Explored.{Fillable};
-use certify::Met;
-use certify::Sought;
 use certify::reach::two_reached;
+use certify_sought::Met;
+use certify_sought::Sought;
 use machine::Memory;
 use machine::Message;
 use machine::Thread;

@@ -16,9 +16,9 @@ use Rattle.machine.specs.declared.Machine.{Machine}
 use Rattle.machine.specs.State.{fresh, threadOf}
 use Rattle.machine.proofs.Effects.{effect-time}
 use Rattle.machine.proofs.Formed.{MachineOk}
-use Rattle.certify.specs.Certify.{certified}
-use Rattle.certify.proofs.Candidates.{Write, isIn, candidates}
-use Rattle.certify.proofs.Law.{candidate-law}
+use Rattle.certify_runs.specs.Certify.{certified}
+use Rattle.certify_runs.proofs.Candidates.{Write, isIn, candidates}
+use Rattle.certify_runs.proofs.Law.{candidate-law}
 use Rattle.theory_sequences.specs.Sequences.{Among, Ascending, branches}
 use Rattle.theory_sequences.proofs.Ordered.{among-left, among-right, among-cases, among-map, among-unmap, ascending-append}
 use Rattle.theory_sequences.specs.Scan.{told}

@@ -14,7 +14,8 @@ use Rattle.theory_sequences.specs.Lawful.{Lawful}
 use Rattle.step.specs.Step.{Step, Decision, rejected, accepted, step, taken}
 use Rattle.step.specs.Order.{everyStep}
 use Rattle.step.proofs.Backwards.{Did, executed, promised, did}
-use Rattle.step.proofs.Bound.{potential, lowers, well-formed}
+use Rattle.step.proofs.Bound.{lowers, well-formed}
+use Rattle.step.specs.Inner.{potential}
 use Rattle.search_sequences.specs.OfProgram.{stepping}
 use Rattle.search_sequences.proofs.Steps.{less-asym, rising, execution-tried, promise-tried}
 

@@ -14,7 +14,8 @@ use Rattle.theory_sequences.specs.Demand.{Demand}
 use Rattle.theory_sequences.proofs.Listed as lists
 use Rattle.theory_sequences.proofs.Meets as answers
 use Rattle.step.specs.Step.{Step}
-use Rattle.step.proofs.Bound.{potential, potential-fresh}
+use Rattle.step.proofs.Bound.{potential-fresh}
+use Rattle.step.specs.Inner.{potential}
 use Rattle.search_sequences.specs.OfProgram.{stepping, sequencesOf, answerTo}
 use Rattle.search_sequences.proofs.Machine.{lawful}
 

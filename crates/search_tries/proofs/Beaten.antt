@@ -20,11 +20,12 @@ use Rattle.machine.specs.declared.Machine.{Machine}
 use Rattle.machine.specs.State.{has}
 use Rattle.machine.specs.Rules.{next, valueOf, address, execute}
 use Rattle.certify_cares.specs.Cares.{careOf}
-use Rattle.certify.specs.Certify.{certified}
-use Rattle.certify.specs.declared.reach.Reached.{Reached}
-use Rattle.certify.specs.Sought.{Meets, Found}
-use Rattle.certify.specs.Tries.{PassedOver}
-use Rattle.certify.proofs.Iff.{certified-iff}
+use Rattle.certify_runs.specs.Certify.{certified}
+use Rattle.certify_tried.specs.declared.Reached.{Reached}
+use Rattle.certify_sought.specs.Aim.{Meets}
+use Rattle.certify.specs.Search.{Found}
+use Rattle.certify_vain.specs.Tries.{PassedOver}
+use Rattle.certify_runs.proofs.Iff.{certified-iff}
 use Rattle.certify.proofs.Later.{later-lost}
 use Rattle.certify.proofs.Reaching.{found-twice, found-certified}
 use Rattle.search_promises.proofs.Law.{same-run}

@@ -20,9 +20,9 @@ use Rattle.machine.specs.Rules.{Executed, refused, next, execute}
 use Rattle.machine.specs.WellFormed.{machineTest}
 use Rattle.machine.proofs.Formed.{MachineOk}
 use Rattle.program.proofs.Formed.{ProgramOk}
-use Rattle.certify.specs.Certify.{certified}
-use Rattle.certify.proofs.Fit.{promises-fit}
-use Rattle.certify.proofs.Law.{Sound}
+use Rattle.certify_runs.specs.Certify.{certified}
+use Rattle.certify_runs.proofs.Fit.{promises-fit}
+use Rattle.certify_runs.specs.Inner.{Sound}
 use Rattle.search_promises.specs.Explored.{Fillable}
 use Rattle.search_promises.proofs.Law.{explored-law}
 use Rattle.step.specs.Step.{Step, Decision, rejected, accepted, settle, settleRule, executeInstr, kindStep, ruleStep, executeStep, step, taken}

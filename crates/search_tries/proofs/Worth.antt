@@ -22,9 +22,9 @@ use Rattle.machine.specs.State.{threadOf}
 use Rattle.machine.specs.Rules.{next, execute}
 use Rattle.machine.proofs.Cases.{was-true}
 use Rattle.certify_ahead.proofs.Stores.{stores-end}
-use Rattle.certify.specs.declared.Met.{Met}
-use Rattle.certify.specs.Sought.{LeastOrTwo}
-use Rattle.certify.proofs.Law.{Sound}
+use Rattle.certify_sought.specs.declared.Met.{Met}
+use Rattle.certify_sought.specs.Numbers.{LeastOrTwo}
+use Rattle.certify_runs.specs.Inner.{Sound}
 use Rattle.search_promises.specs.Explored.{Fillable}
 use Rattle.search_promises.proofs.Kept.{reached-law}
 use Rattle.step.specs.Step.{Step, step, taken}

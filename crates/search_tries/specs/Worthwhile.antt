@@ -18,7 +18,7 @@ use Rattle.machine.specs.declared.Machine.{Machine}
 use Rattle.machine.specs.State.{has}
 use Rattle.machine.specs.Rules.{valueOf, address}
 use Rattle.certify_cares.specs.Cares.{careOf}
-use Rattle.certify.specs.Tries.{NoBetter}
+use Rattle.certify_vain.specs.Tries.{NoBetter}
 use Rattle.step.specs.Step.{Step, step, taken}
 use Rattle.step.specs.Order.{execution}
 use Rattle.step.specs.Inner.{Here}

@@ -17,19 +17,19 @@ use Rattle.machine.specs.State.{freshThread, threadOf}
 use Rattle.program.specs.Program.{instrAt, codeOf}
 use Rattle.program.specs.declared.Instr.{Instr}
 use Rattle.program.proofs.Arrays.{getD-any}
-use Rattle.certify.specs.Answers as certified
-use Rattle.certify.proofs.Asked.{program-facts, machine-facts, ready-here}
-use Rattle.certify.proofs.Law.{Sound}
+use Rattle.certify_runs.specs.Inner as certified
+use Rattle.certify_runs.proofs.Ready.{program-facts, machine-facts, ready-here}
+use Rattle.certify_runs.specs.Inner.{Sound}
 use Rattle.encode_bytes.specs.Inner.{put}
 use Rattle.theory_sequences.specs.Scan.{Scan}
 use Rattle.step.specs.Step.{Step, accepted, rejected, step}
 use Rattle.step.specs.declared.StepAnswer.the-variants.{Taken, Refused}
 use Rattle.step.specs.declared.Moved.{Moved}
 use Rattle.step.specs.Order.{execution}
-use Rattle.step.specs.Inner.{Here, Remembers, Moves}
+use Rattle.step.specs.Inner.{Here, Remembers, Moves, potential}
 use Rattle.step.proofs.Answered.{thread-taken, thread-refused}
 use Rattle.step.specs.Trace.{stepBytes}
-use Rattle.step.proofs.Bound.{potential, lowers}
+use Rattle.step.proofs.Bound.{lowers}
 use Rattle.step.proofs.Kept.{kept}
 use Rattle.search_sequences.specs.Numbers.{keyPromise}
 use Rattle.search_table.specs.Table.{slotWith}

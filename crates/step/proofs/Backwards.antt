@@ -15,7 +15,7 @@ use Rattle.machine.specs.State.{threadOf, append}
 use Rattle.machine.specs.Rules.{Executed, refused, next, execute, addPromise}
 use Rattle.machine.specs.WellFormed.{machineTest}
 use Rattle.machine.proofs.Effects.{Effect, effect}
-use Rattle.certify.specs.Certify.{certified}
+use Rattle.certify_runs.specs.Certify.{certified}
 use Rattle.step.specs.Below.{Program, Instr, Memory, Thread, Machine}
 use Rattle.step.specs.Step.{Step, Decision, rejected, accepted, check, settle, settleRule, executeInstr, executeStep, promiseStep, kindStep, ruleStep, step}
 

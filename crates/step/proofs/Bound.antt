@@ -16,18 +16,12 @@ use Rattle.machine.specs.State.{freshThread, fresh, threadOf}
 use Rattle.machine.proofs.Sets.{ones-none, ones-with}
 use Rattle.machine.proofs.Effects.{Effect, moves}
 use Rattle.machine.proofs.Formed.{MachineOk, machine-iff}
-use Rattle.certify.proofs.Fit.{outstanding, takes, promises-fit}
+use Rattle.certify_runs.proofs.Fit.{takes, promises-fit}
+use Rattle.certify_runs.specs.Inner.{outstanding}
 use Rattle.step.specs.Below.{Code, Program, Instr, Memory, Thread, Machine}
 use Rattle.step.specs.Step.{Step, accepted, step}
+use Rattle.step.specs.Inner.{left, potential}
 use Rattle.step.proofs.Backwards.{moved, promisedMemory, promisedThread, Did, executed, promised, did}
-
--- the instructions left to a thread, and its stores left less its promises outstanding
-abbrev pub left : Code → Thread → ℕ
-left c s = (c .count - s .position) + (storesFrom c (s .position) - outstanding s)
-
--- THE POTENTIAL: what is left to all threads
-unfoldable pub potential : Program → Machine → ℕ
-potential p x = sumBelow (λ i. left (codeOf p i) (threadOf x i)) (p .threads)
 
 -- ---- one thread moves
 -- its new state, and the others as they were

@@ -24,11 +24,11 @@ use Rattle.machine.proofs.Sets.{has-positive, has-none, has-time, has-without, 
 use Rattle.machine.proofs.Memories.{message-stays}
 use Rattle.machine.proofs.Effects.{loadLocation, loadPreView, storeLocation, Effect, computed, loaded, stored, branched, fenced, effect}
 use Rattle.machine.proofs.Formed.{MachineOk, machine-iff}
-use Rattle.certify.specs.Certify.{certified}
-use Rattle.certify.specs.Runs.{Run, Certifying, done, by, own}
-use Rattle.certify.proofs.Iff.{certified-iff}
-use Rattle.certify.proofs.Fit.{Owned, owned, own-effect}
-use Rattle.certify.proofs.Dead.{Dead, dead-ends}
+use Rattle.certify_runs.specs.Certify.{certified}
+use Rattle.certify_runs.specs.Runs.{Run, Certifying, done, by, own}
+use Rattle.certify_runs.proofs.Iff.{certified-iff}
+use Rattle.certify_runs.proofs.Fit.{Owned, owned, own-effect}
+use Rattle.certify_runs.proofs.Dead.{Dead, dead-ends}
 use Rattle.step.specs.Below.{Code, Program, Operand, Instr, Compute, Load, Store, Branch, Fence, Message, Memory, Thread, Machine}
 use Rattle.step.specs.Step.{Step, rejected, settleRule, executeInstr, executeStep, promiseStep, kindStep, ruleStep, step}
 use Rattle.step.specs.Reached.{Reached, start, on}

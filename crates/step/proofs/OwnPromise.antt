@@ -21,8 +21,8 @@ use Rattle.machine.specs.WellFormed.{machineTest}
 use Rattle.machine.proofs.Sets.{has-none, has-removed, has-added}
 use Rattle.machine.proofs.Effects.{loadLocation, loadPreView, loadPostView, Effect, computed, loaded, stored, branched, fenced, readable-time, read-there}
 use Rattle.machine.proofs.Formed.{MachineOk, machine-iff}
-use Rattle.certify.specs.Certify.{certified}
-use Rattle.certify.proofs.Dead.{Dead, dead-run}
+use Rattle.certify_runs.specs.Certify.{certified}
+use Rattle.certify_runs.proofs.Dead.{Dead, dead-run}
 use Rattle.step.specs.Below.{Program, Operand, LoadMode, Instr, Load, Memory, Forward, Thread, Machine}
 use Rattle.step.specs.Step.{Step, Decision, rejected, accepted, check, settle, settleRule, executeInstr, executeStep, kindStep, ruleStep, step}
 use Rattle.step.specs.Order.{execution}

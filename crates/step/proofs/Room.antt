@@ -20,10 +20,11 @@ use Rattle.machine.specs.WellFormed.{machineTest}
 use Rattle.machine.proofs.Sets.{ones-none}
 use Rattle.machine.proofs.Effects.{Effect}
 use Rattle.machine.proofs.Formed.{MachineOk}
-use Rattle.certify.specs.Certify.{certified}
-use Rattle.certify.specs.Runs.{Run, Unlimited}
-use Rattle.certify.proofs.Iff.{certified-iff}
-use Rattle.certify.proofs.Fit.{outstanding, fits, promises-fit, unlimited-is-certifying}
+use Rattle.certify_runs.specs.Certify.{certified}
+use Rattle.certify_runs.specs.Runs.{Run, Unlimited}
+use Rattle.certify_runs.proofs.Iff.{certified-iff}
+use Rattle.certify_runs.proofs.Fit.{fits, promises-fit, unlimited-is-certifying}
+use Rattle.certify_runs.specs.Inner.{outstanding}
 use Rattle.step.specs.Below.{Code, Program, Instr, Memory, Thread, Machine}
 use Rattle.step.specs.Step.{Step, Decision, rejected, check, settle, promiseStep, kindStep, ruleStep, step}
 use Rattle.step.specs.Order.{promise}

@@ -20,12 +20,11 @@ use Rattle.machine.specs.declared.RuleAnswer.the-variants as rule
 use Rattle.machine.specs.declared.Ruled.{Ruled}
 use Rattle.machine.proofs.Cases.{reach-within, ruled-done, ruled-refused}
 use Rattle.machine.proofs.Effects.{effect}
-use Rattle.certify.specs.Certify.{certified}
-use Rattle.certify.specs.Runs.{done}
-use Rattle.certify.proofs.Iff.{certified-iff}
-use Rattle.certify.specs.Answers.{Ready}
-use Rattle.certify.proofs.Asked.{ready-here}
-use Rattle.certify.proofs.Trying.{ready-after}
+use Rattle.certify_runs.specs.Certify.{certified}
+use Rattle.certify_runs.specs.Runs.{done}
+use Rattle.certify_runs.proofs.Iff.{certified-iff}
+use Rattle.certify_runs.specs.Inner.{Ready}
+use Rattle.certify_runs.proofs.Ready.{ready-here, ready-after}
 use Rattle.step.specs.Below.{Code, Program, Instr, Message, Memory, Thread, Machine}
 use Rattle.step.specs.Step.{Step, rejected, accepted, settle, settleRule, executeInstr, executeStep, promiseStep, kindStep, ruleStep, step}
 use Rattle.step.specs.Answers.{Taken, Refused, Stepped, stepped}

@@ -1,14 +1,17 @@
--- What the parts of a step promise each other: a step of one thread, in any machine that has it.
+-- What the parts of a step promise each other: a step of one thread, in any machine that has it; and how many steps can follow.
 -- Assumes nothing.
 use mathlib.Core.Path.{_≡_}
 use mathlib.Core.Logic.{_⊎_}
-use Prim.Native.Nat.{ℕ, zero, suc, _<_}
+use Prim.Native.Nat.{ℕ, zero, suc, _+_, _-_, _<_}
 use lib.Dec.{T}
 use lib.ListN.{set}
+use Rattle.program.specs.Tests.{sumBelow}
 use Rattle.program.specs.Program.{codeOf}
+use Rattle.program.specs.Counts.{storesFrom}
 use Rattle.machine.specs.State.{threadOf, append}
 use Rattle.machine.specs.Rules.{addPromise}
-use Rattle.certify.specs.Certify.{certified}
+use Rattle.certify_runs.specs.Certify.{certified}
+use Rattle.certify_runs.specs.Inner.{outstanding}
 use Rattle.step.specs.Below.{Code, Program, Message, Memory, Thread, Machine}
 use Rattle.step.specs.Step.{Step, Decision, rejected, accepted, settle, executeStep, promiseStep, kindStep}
 use Rattle.step.specs.Answers.{StepAnswer, Taken, Refused}
@@ -64,3 +67,12 @@ PromisesKept i m s l v r = (c : Code) → LeavesCertified c i m s l v → Promis
 
 abbrev pub Moves : Code → Memory → Thread → Step → Moved → Type 0
 Moves c m s k r = (p : Program) (x : Machine) → Here c m s p x (k .thread) → kindStep p x k (k .kind) ≡ decision x (k .thread) (memoryAfter m k (k .kind)) r
+
+-- ---- how many steps can follow
+-- the instructions left to a thread, and its stores left less its promises outstanding
+abbrev pub left : Code → Thread → ℕ
+left c s = (c .count - s .position) + (storesFrom c (s .position) - outstanding s)
+
+-- THE POTENTIAL: what is left to all threads
+unfoldable pub potential : Program → Machine → ℕ
+potential p x = sumBelow (λ i. left (codeOf p i) (threadOf x i)) (p .threads)

@@ -16,7 +16,7 @@ use Rattle.program.proofs.Tests.{all-at, below-at}
 use Rattle.program.proofs.Shape.{program-iff}
 use Rattle.machine.specs.State.{freshRegister, threadOf, messageAt}
 use Rattle.machine.specs.Inner.{Formed}
-use Rattle.certify.proofs.Asked.{machine-facts}
+use Rattle.certify_runs.proofs.Ready.{machine-facts}
 use Rattle.program.specs.declared.Code.{Code}
 use Rattle.program.specs.declared.Condition.{Condition}
 use Rattle.program.specs.declared.Program.{Program}

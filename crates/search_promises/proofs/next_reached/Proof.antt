@@ -1,7 +1,7 @@
 -- `search_promises::next_reached` meets its contract.
 -- Assumes nothing.
 use borrow.Author.Needs.{needs}
-use Rattle.certify.proofs.Numbers.{only-least, two-least, none-met}
+use Rattle.certify_sought.proofs.Numbers.{only-least, two-least, none-met}
 use Rattle.search_promises.proofs.next_reached.Statement.{statement}
 use Rattle.search_promises.proofs.next_reached.Tie as tie
 

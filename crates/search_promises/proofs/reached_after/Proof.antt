@@ -1,6 +1,6 @@
 -- `search_promises::reached_after` meets its contract.
 -- Assumes nothing.
-use Rattle.certify.proofs.Trying.{ready-promised, with-room}
+use Rattle.certify_runs.proofs.Ready.{ready-promised, with-room}
 use Rattle.search_promises.specs.Explored.{hole}
 use borrow.Author.Needs.{needs}
 use Rattle.search_promises.proofs.reached_after.Statement.{statement}

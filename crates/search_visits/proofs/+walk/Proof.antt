@@ -2,7 +2,7 @@
 -- Assumes nothing.
 use Rattle.search_visits.proofs.Loops.{AtThread, AtStep, restored, enters, code-at, thread-at, thread-ready, next-there, first, ends, leaves, answers, less-than-whole, whole-written, step-ready, step-sound, step-kept, set-others, same-others, on, is-numbered, is-rejected, lower, ready-below, goes-on, runs-out, finds}
 use Rattle.search_arrivals.proofs.Known.{Trusted, trusted-on, trusted-as, trusted-to, told-as, is-over, is-open, rest-within, still-true}
-use Rattle.step.proofs.Bound.{potential}
+use Rattle.step.specs.Inner.{potential}
 use Rattle.search_tries.specs.Worthwhile.{answerOnly}
 use Rattle.machine.specs.declared.Machine.{Machine}
 use Rattle.program.proofs.Arrays.{length-mapped}

@@ -1,6 +1,6 @@
 -- `step::promise_step` meets its contract.
 -- Assumes nothing.
-use Rattle.certify.proofs.Trying.{ready-promised}
+use Rattle.certify_runs.proofs.Ready.{ready-promised}
 use Rattle.step.proofs.Stepping.{promise-23, promise-24, promise-settles}
 use mathlib.Core.Path.{refl}
 use borrow.Author.Needs.{needs}

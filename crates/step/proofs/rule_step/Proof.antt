@@ -1,7 +1,7 @@
 -- `step::rule_step` meets its contract.
 -- Assumes nothing.
 use Rattle.step.proofs.Stepping.{rule-21, rule-taken, rule-refused, thread-ready}
-use Rattle.certify.proofs.Asked.{of-four}
+use Rattle.certify_runs.proofs.Ready.{of-four}
 use Rattle.step.specs.Answers.{stepped}
 use mathlib.Core.Path.{sym, ap, _∙_}
 use borrow.Author.Needs.{needs}

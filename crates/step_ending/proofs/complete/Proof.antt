@@ -2,7 +2,7 @@
 -- Assumes nothing.
 use Rattle.step_ending.proofs.Asking.{thread-done, all-four}
 use Rattle.step.specs.Outcome.{complete}
-use Rattle.certify.proofs.Asked.{program-facts}
+use Rattle.certify_runs.proofs.Ready.{program-facts}
 use Rattle.machine.specs.State.{threadOf}
 use Rattle.program.proofs.Arrays.{length-mapped, getD-any}
 use Rattle.program.specs.Program.{codeOf}

@@ -2,7 +2,8 @@
 -- Assumes nothing.
 use borrow.Author.Needs.{needs}
 use borrow.Author.Tests.{not-true, not-false}
-use Rattle.certify.proofs.Asked.{formed, of-four, ready-here, certify-20, certify-21, certify-yes, certify-no}
+use Rattle.certify_runs.proofs.Ready.{formed, of-four, ready-here}
+use Rattle.certify.proofs.Asked.{certify-20, certify-21, certify-yes, certify-no}
 use Rattle.certify.proofs.checked.certify.Statement.{statement}
 use Rattle.certify.proofs.checked.certify.Tie as tie
 

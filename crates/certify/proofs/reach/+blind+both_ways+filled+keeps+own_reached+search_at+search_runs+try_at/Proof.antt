@@ -14,18 +14,20 @@ use Rattle.program.proofs.Counts.{there}
 use Rattle.machine.proofs.Cases.{ruled-done}
 use Rattle.machine.proofs.Effects.{effect}
 use Rattle.certify_cares.specs.Cares.{Covers}
-use Rattle.certify.specs.Below.{Thread}
-use Rattle.certify.specs.Sought.{Better, same, Meets, Missed, Went}
-use Rattle.certify.specs.Straight.{here}
-use Rattle.certify.proofs.Trying.{ready-after, ready-as, ready-own, reach-byte}
-use Rattle.certify.proofs.Plain.{leads-ready, walked-leads, walked-further}
-use Rattle.certify.proofs.Numbers.{better-on}
+use Rattle.certify_runs.specs.Below.{Thread}
+use Rattle.certify_sought.specs.Numbers.{Better, same}
+use Rattle.certify_sought.specs.Aim.{Meets}
+use Rattle.certify.specs.Search.{Missed, Went}
+use Rattle.certify_straight.specs.Straight.{here}
+use Rattle.certify_runs.proofs.Ready.{ready-after, ready-as, ready-own, reach-byte}
+use Rattle.certify_straight.proofs.Plain.{leads-ready, walked-leads, walked-further}
+use Rattle.certify_sought.proofs.Numbers.{better-on}
 use Rattle.certify.proofs.Finding.{covers-self, covers-on}
 use Rattle.certify.proofs.Filling.{fill-no-hole, fill-none, fill-unsought, fill-here, fill-fails, alone-kept, alone-lost, hole-time, trying-filled, keeps-refused, keeps-done}
 use Rattle.certify.proofs.Missing.{knows-none, missed-none, missed-on, went-refused, went-hopeless, went-found, went-on, went-apart}
 use Rattle.certify.proofs.Owning.{owns-none, owns-untried, owns-apart, owns-stuck, owns-goes}
 use Rattle.certify.proofs.Losing.{fruitless-found}
-use Rattle.certify.proofs.Unread.{blind-found}
+use Rattle.certify.proofs.Blind.{blind-found}
 use Rattle.certify.proofs.Forking.{fork-this, fork-other, both-found}
 use Rattle.certify.proofs.Reaching.{reach-end, reach-ended, fills-meets, tried-meets, owns-meets, reach-all, straight-kept, straight-ended, straight-found, further-by, further-own}
 use Prim.Native.Nat.{ℕ, _<_}
@@ -60,37 +62,38 @@ use Rattle.certify_cares.proofs.Cares.forgetting.Reads as forgetting-reads
 use Rattle.certify_cares.proofs.Cares.noting.Reads as noting-reads
 use Rattle.certify_cares.proofs.Cares.of_register.Reads as of-register-reads
 use Rattle.certify_cares.proofs.barring.Reads as barring-reads
-use Rattle.certify.proofs.Met.ended.Reads as ended-reads
-use Rattle.certify.proofs.Met.is.Reads as is-reads
-use Rattle.certify.proofs.Met.with.Reads as with-reads
-use Rattle.certify.proofs.Sought.after.Reads as after-reads
-use Rattle.certify.proofs.Sought.certified.Reads as certified-reads
-use Rattle.certify.proofs.Sought.seeks.Reads as seeks-reads
-use Rattle.certify.proofs.asks.asks.Reads as asks-reads
-use Rattle.certify.proofs.blind.told.Reads as told-reads
-use Rattle.certify.proofs.blind.unknown.Reads as unknown-reads
-use Rattle.certify.proofs.blind.unread.Reads as unread-reads
-use Rattle.certify.proofs.blind.worth_a_look.Reads as worth-a-look-reads
-use Rattle.certify.proofs.blind.worth_asking.Reads as worth-asking-reads
-use Rattle.certify.proofs.idle.idle.Reads as idle-reads
-use Rattle.certify.proofs.idle.lowered.Reads as lowered-reads
+use Rattle.certify_sought.proofs.Met.ended.Reads as ended-reads
+use Rattle.certify_sought.proofs.Met.is.Reads as is-reads
+use Rattle.certify_sought.proofs.Met.with.Reads as with-reads
+use Rattle.certify_sought.proofs.Sought.after.Reads as after-reads
+use Rattle.certify_sought.proofs.Sought.certified.Reads as certified-reads
+use Rattle.certify_sought.proofs.Sought.seeks.Reads as seeks-reads
+use Rattle.certify_sought.proofs.asks.asks.Reads as asks-reads
+use Rattle.certify_tried.proofs.blind.told.Reads as told-reads
+use Rattle.certify_tried.proofs.blind.unknown.Reads as unknown-reads
+use Rattle.certify_tried.proofs.blind.unread.Reads as unread-reads
+use Rattle.certify_tried.proofs.blind.worth_a_look.Reads as worth-a-look-reads
+use Rattle.certify_tried.proofs.blind.worth_asking.Reads as worth-asking-reads
+use Rattle.certify_window.proofs.idle.idle.Reads as idle-reads
+use Rattle.certify_window.proofs.idle.lowered.Reads as lowered-reads
 use Rattle.certify.proofs.own_message.Reads as own-message-reads
-use Rattle.certify.proofs.tried.appends.Reads as appends-reads
-use Rattle.certify.proofs.straight.at_position.Reads as at-position-reads
-use Rattle.certify.proofs.goal.emptied.Reads as emptied-reads
-use Rattle.certify.proofs.goal.fill.Reads as fill-reads
-use Rattle.certify.proofs.tried.hopeless.Reads as hopeless-reads
-use Rattle.certify.proofs.goal.kept.Reads as kept-reads
-use Rattle.certify.proofs.tried.noted.Reads as noted-reads
-use Rattle.certify.proofs.tried.untried.Reads as untried-reads
-use Rattle.certify.proofs.straight.Walk.held.Reads as held-reads
-use Rattle.certify.proofs.straight.before_straight.Reads as before-straight-reads
-use Rattle.certify.proofs.straight.halts.Reads as halts-reads
-use Rattle.certify.proofs.straight.straight.Reads as straight-reads
-use Rattle.certify.proofs.window.earliest.Reads as earliest-reads
-use Rattle.certify.proofs.window.following.Reads as following-reads
+use Rattle.certify_tried.proofs.appends.Reads as appends-reads
+use Rattle.certify_straight.proofs.at_position.Reads as at-position-reads
+use Rattle.certify_sought.proofs.goal.emptied.Reads as emptied-reads
+use Rattle.certify_sought.proofs.goal.fill.Reads as fill-reads
+use Rattle.certify_tried.proofs.hopeless.Reads as hopeless-reads
+use Rattle.certify_sought.proofs.goal.kept.Reads as kept-reads
+use Rattle.certify_tried.proofs.noted.Reads as noted-reads
+use Rattle.certify_tried.proofs.untried.Reads as untried-reads
+use Rattle.certify_straight.proofs.Walk.held.Reads as held-reads
+use Rattle.certify_straight.proofs.before_straight.Reads as before-straight-reads
+use Rattle.certify_straight.proofs.halts.Reads as halts-reads
+use Rattle.certify_straight.proofs.straight.Reads as straight-reads
+use Rattle.certify_window.proofs.earliest.Reads as earliest-reads
+use Rattle.certify_window.proofs.following.Reads as following-reads
 use Rattle.certify_ahead.proofs.loads_ahead.Reads as loads-ahead-reads
 use Rattle.certify_lost.proofs.fruitless.Reads as fruitless-reads
+use Rattle.certify_lost.proofs.wanted.number_of.Reads as number-of-reads
 use Rattle.machine.proofs.Memory.append.Reads as append-reads
 use Rattle.machine.proofs.promises.has.Reads as has-reads
 use Rattle.rules.proofs.execute.Reads as execute-reads
@@ -190,7 +193,7 @@ abbrev both-ways-claims : ℕ → both-ways-lts.Claims
 both-ways-claims t = (search-runs-below t, search-runs.Post, ended-reads.Asked, ended-reads.Learnt, held-reads.Asked, held-reads.Learnt, of-register-reads.Asked, of-register-reads.Learnt, before-straight-reads.Asked, before-straight-reads.Learnt, at-position-reads.Asked, at-position-reads.Learnt, after-reads.Asked, after-reads.Learnt, is-reads.Asked, is-reads.Learnt, and-reads.Asked, and-reads.Learnt)
 
 abbrev filled-claims : ℕ → filled-lts.Claims
-filled-claims t = (has-reads.Asked, has-reads.Learnt, own-message-reads.Asked, own-message-reads.Learnt, seeks-reads.Asked, seeks-reads.Learnt, with-reads.Asked, with-reads.Learnt, view-of-reads.Asked, view-of-reads.Learnt, below-time-reads.Asked, below-time-reads.Learnt, fill-reads.Asked, fill-reads.Learnt, keeps-below t, keeps.Post)
+filled-claims t = (has-reads.Asked, has-reads.Learnt, own-message-reads.Asked, own-message-reads.Learnt, number-of-reads.Asked, number-of-reads.Learnt, seeks-reads.Asked, seeks-reads.Learnt, with-reads.Asked, with-reads.Learnt, view-of-reads.Asked, view-of-reads.Learnt, below-time-reads.Asked, below-time-reads.Learnt, fill-reads.Asked, fill-reads.Learnt, keeps-below t, keeps.Post)
 
 abbrev keeps-claims : ℕ → keeps-lts.Claims
 keeps-claims t = (execute-reads.Asked, execute-reads.Learnt, certified-reads.Asked, certified-reads.Learnt, search-runs-below t, search-runs.Post)
@@ -339,23 +342,14 @@ filled-enum-known-x t c = search needs
 filled-own-message-requires : (t : ℕ) → filled-lts.Need-own-message-requires (filled-claims t) (filled-at t) filled.Post
 filled-own-message-requires t c κs = search needs
 
-filled-cast-number : (t : ℕ) → filled-lts.Need-cast-number (filled-claims t) (filled-at t) filled.Post
-filled-cast-number t c = search needs
-
-filled-mul-number : (t : ℕ) → filled-lts.Need-mul-number (filled-claims t) (filled-at t) filled.Post
-filled-mul-number t c = search needs
-
-filled-cast-number-2 : (t : ℕ) → filled-lts.Need-cast-number-2 (filled-claims t) (filled-at t) filled.Post
-filled-cast-number-2 t c = search needs
-
-filled-add-number : (t : ℕ) → filled-lts.Need-add-number (filled-claims t) (filled-at t) filled.Post
-filled-add-number t c = search needs
+filled-number-of-requires : (t : ℕ) → filled-lts.Need-number-of-requires (filled-claims t) (filled-at t) filled.Post
+filled-number-of-requires t c κs = search needs
 
 filled-seeks-requires : (t : ℕ) → filled-lts.Need-seeks-requires (filled-claims t) (filled-at t) filled.Post
 filled-seeks-requires t c κs = search needs
 
 filled-returns-2 : (t : ℕ) → filled-lts.Need-returns-2 (filled-claims t) (filled-at t) filled.Post
-filled-returns-2 t c = fill-unsought _ _ _ _ _ (c .before .before .before .before .before .before .before .before .before .before .before .args .q) _ _ _ _ (c .before .before .before .before .before .before .x .given .1) _ (c .before .before .before .before .own-message .ensures) _ (c .before .seeks .ensures .1) (c .if2 .taken)
+filled-returns-2 t c = fill-unsought _ _ _ _ _ (c .before .before .before .before .before .before .before .before .before .before .args .q) _ _ _ _ (c .before .before .before .before .before .x .given .1) _ (c .before .before .before .own-message .ensures) _ (rw (c .before .before .number-of .ensures) at (c .before .seeks .ensures .1)) (c .if2 .taken)
 
 filled-with-requires : (t : ℕ) → filled-lts.Need-with-requires (filled-claims t) (filled-at t) filled.Post
 filled-with-requires t c κs = search needs
@@ -367,22 +361,22 @@ filled-view-of-requires-2 : (t : ℕ) → filled-lts.Need-view-of-requires-2 (fi
 filled-view-of-requires-2 t c κs = search needs
 
 filled-below-time-requires : (t : ℕ) → filled-lts.Need-below-time-requires (filled-claims t) (filled-at t) filled.Post
-filled-below-time-requires t c κs = rw (c .before .before .before .before .before .before .before .before .before .own-message .ensures) (mod-lt _ (lit< tt))
+filled-below-time-requires t c κs = rw (c .before .before .before .before .before .before .before .before .own-message .ensures) (mod-lt _ (lit< tt))
 
 filled-returns-3 : (t : ℕ) → filled-lts.Need-returns-3 (filled-claims t) (filled-at t) filled.Post
-filled-returns-3 t c = fill-here _ _ _ _ _ (c .before .before .before .before .before .before .before .before .before .before .before .before .before .before .before .before .before .before .args .q) _ _ _ _ (c .before .before .before .before .before .before .before .before .before .before .before .before .before .x .given .1) _ (c .before .before .before .before .before .before .before .before .before .before .before .own-message .ensures) _ refl (omega (arith, c .before .before .before .before .before .before .before .before .before .before .before .own-message .ok)) (c .before .before .before .before .before .before .before .before .seeks .ensures .0 (not-false _ (c .before .before .before .before .before .before .before .if2 .left))) _ (c .before .before .before .before .before .before .with .ensures) (alone-kept (c .before .before .before .before .before .before .before .before .before .before .before .before .before .before .before .before .before .before .args .c) _ (c .before .before .before .before .before .before .before .before .before .before .before .before .before .before .before .before .before .before .args .m) _ _ _ _ _ _ (c .before .before .before .before .before .before .before .before .before .before .before .own-message .ensures) _ (rw (c .before .before .before .view-of .ensures, c .before .before .view-of2 .ensures) at (c .before .below-time .ensures)) (c .before .before .before .before .before .before .before .before .before .before .before .before .before .before .before .before .before .before .pre .1 .ready .promises-in) (c .before .before .before .before .before .before .before .before .before .before .before .before .before .before .before .before .before .before .pre .1 .ready .room) (places t (c .before .before .before .before .before .before .before .before .before .before .before .before .before .before .before .before .before .before)) _ (c .before .before .before .before .before .before .before .before .before .before .before .before .before .before .before .before .has .ensures) (c .before .before .before .before .before .before .before .before .before .before .before .before .before .before .before .if1 .left) (c .before .before .before .before .if3 .taken) (c .if4 .taken))
+filled-returns-3 t c = fill-here _ _ _ _ _ (c .before .before .before .before .before .before .before .before .before .before .before .before .before .before .before .before .before .args .q) _ _ _ _ (c .before .before .before .before .before .before .before .before .before .before .before .before .x .given .1) _ (c .before .before .before .before .before .before .before .before .before .before .own-message .ensures) _ refl (omega (arith, c .before .before .before .before .before .before .before .before .before .before .own-message .ok)) (rw (c .before .before .before .before .before .before .before .before .before .number-of .ensures) at (c .before .before .before .before .before .before .before .before .seeks .ensures .0 (not-false _ (c .before .before .before .before .before .before .before .if2 .left)))) _ (rw (c .before .before .before .before .before .before .before .before .before .number-of .ensures) at (c .before .before .before .before .before .before .with .ensures)) (alone-kept (c .before .before .before .before .before .before .before .before .before .before .before .before .before .before .before .before .before .args .c) _ (c .before .before .before .before .before .before .before .before .before .before .before .before .before .before .before .before .before .args .m) _ _ _ _ _ _ (c .before .before .before .before .before .before .before .before .before .before .own-message .ensures) _ (rw (c .before .before .before .view-of .ensures, c .before .before .view-of2 .ensures) at (c .before .below-time .ensures)) (c .before .before .before .before .before .before .before .before .before .before .before .before .before .before .before .before .before .pre .1 .ready .promises-in) (c .before .before .before .before .before .before .before .before .before .before .before .before .before .before .before .before .before .pre .1 .ready .room) (places t (c .before .before .before .before .before .before .before .before .before .before .before .before .before .before .before .before .before)) _ (c .before .before .before .before .before .before .before .before .before .before .before .before .before .before .before .has .ensures) (c .before .before .before .before .before .before .before .before .before .before .before .before .before .before .if1 .left) (c .before .before .before .before .if3 .taken) (c .if4 .taken))
 
 filled-returns-4 : (t : ℕ) → filled-lts.Need-returns-4 (filled-claims t) (filled-at t) filled.Post
-filled-returns-4 t c = fill-fails _ _ _ _ _ (c .before .before .before .before .before .before .before .before .before .before .before .before .before .before .before .before .before .before .args .q) _ _ _ _ (c .before .before .before .before .before .before .before .before .before .before .before .before .before .x .given .1) _ (c .before .before .before .before .before .before .before .before .before .before .before .own-message .ensures) _ refl (λ s' rests rep p. alone-lost (c .before .before .before .before .before .before .before .before .before .before .before .before .before .before .before .before .before .before .args .c) _ (c .before .before .before .before .before .before .before .before .before .before .before .before .before .before .before .before .before .before .args .m) _ _ _ _ _ _ (c .before .before .before .before .before .before .before .before .before .before .before .own-message .ensures) _ (rw (c .before .before .before .view-of .ensures, c .before .before .view-of2 .ensures) at (c .before .below-time .ensures)) (c .if4 .left) _ s' (rests .under) (λ o a' d' is. rep o a' d' (c .before .before .before .before .before .before .before .before .before .before .before .before .before .x .given .1 ∙ is)) p)
+filled-returns-4 t c = fill-fails _ _ _ _ _ (c .before .before .before .before .before .before .before .before .before .before .before .before .before .before .before .before .before .args .q) _ _ _ _ (c .before .before .before .before .before .before .before .before .before .before .before .before .x .given .1) _ (c .before .before .before .before .before .before .before .before .before .before .own-message .ensures) _ refl (λ s' rests rep p. alone-lost (c .before .before .before .before .before .before .before .before .before .before .before .before .before .before .before .before .before .args .c) _ (c .before .before .before .before .before .before .before .before .before .before .before .before .before .before .before .before .before .args .m) _ _ _ _ _ _ (c .before .before .before .before .before .before .before .before .before .before .own-message .ensures) _ (rw (c .before .before .before .view-of .ensures, c .before .before .view-of2 .ensures) at (c .before .below-time .ensures)) (c .if4 .left) _ s' (rests .under) (λ o a' d' is. rep o a' d' (c .before .before .before .before .before .before .before .before .before .before .before .before .x .given .1 ∙ is)) p)
 
 filled-fill-requires : (t : ℕ) → filled-lts.Need-fill-requires (filled-claims t) (filled-at t) filled.Post
-filled-fill-requires t c κs = hole-time _ _ _ _ (c .before .before .before .before .before .before .before .before .before .before .before .before .before .before .pre .1) _ _ (c .before .before .before .before .before .before .before .before .before .before .before .before .has .ensures) (c .before .before .before .before .before .before .before .before .before .before .before .if1 .left)
+filled-fill-requires t c κs = hole-time _ _ _ _ (c .before .before .before .before .before .before .before .before .before .before .before .before .before .pre .1) _ _ (c .before .before .before .before .before .before .before .before .before .before .before .has .ensures) (c .before .before .before .before .before .before .before .before .before .before .if1 .left)
 
 filled-keeps-requires : (t : ℕ) → filled-lts.Need-keeps-requires (filled-claims t) (filled-at t) filled.Post
-filled-keeps-requires t c κs = (omega (arith, c .before .before .before .before .before .before .before .before .before .before .before .before .before .before .before .pre .0), (trying-filled _ _ (c .before .before .before .before .before .before .before .before .before .before .before .before .before .before .before .pre .1) (c .fill .ensures) (c .before .before .before .before .before .before .before .before .before .before .x .given .1), record { mode = _; a = _; d = _; is-store = refl }))
+filled-keeps-requires t c κs = (omega (arith, c .before .before .before .before .before .before .before .before .before .before .before .before .before .before .pre .0), (trying-filled _ _ (c .before .before .before .before .before .before .before .before .before .before .before .before .before .before .pre .1) (c .fill .ensures) (c .before .before .before .before .before .before .before .before .before .x .given .1), record { mode = _; a = _; d = _; is-store = refl }))
 
 filled-returns-5 : (t : ℕ) → filled-lts.Need-returns-5 (filled-claims t) (filled-at t) filled.Post
-filled-returns-5 t c = fill-here _ _ _ _ _ (c .before .before .before .before .before .before .before .before .before .before .before .before .before .before .before .before .before .before .args .q) _ _ _ _ (c .before .before .before .before .before .before .before .before .before .before .before .before .before .x .given .1) _ (c .before .before .before .before .before .before .before .before .before .before .before .own-message .ensures) _ (c .before .before .before .fill .ensures) (omega (arith, c .before .before .before .before .before .before .before .before .before .before .before .own-message .ok)) (c .before .before .before .before .before .before .before .before .seeks .ensures .0 (not-false _ (c .before .before .before .before .before .before .before .if2 .left))) _ (c .before .before .before .before .before .before .with .ensures) (c .before .before .keeps .ensures .is-kept (c .if5 .taken))
+filled-returns-5 t c = fill-here _ _ _ _ _ (c .before .before .before .before .before .before .before .before .before .before .before .before .before .before .before .before .before .args .q) _ _ _ _ (c .before .before .before .before .before .before .before .before .before .before .before .before .x .given .1) _ (c .before .before .before .before .before .before .before .before .before .before .own-message .ensures) _ (c .before .before .before .fill .ensures) (omega (arith, c .before .before .before .before .before .before .before .before .before .before .own-message .ok)) (rw (c .before .before .before .before .before .before .before .before .before .number-of .ensures) at (c .before .before .before .before .before .before .before .before .seeks .ensures .0 (not-false _ (c .before .before .before .before .before .before .before .if2 .left)))) _ (rw (c .before .before .before .before .before .before .before .before .before .number-of .ensures) at (c .before .before .before .before .before .before .with .ensures)) (c .before .before .keeps .ensures .is-kept (c .if5 .taken))
 
 filled-enum-told : (t : ℕ) → filled-lts.Need-enum-told (filled-claims t) (filled-at t) filled.Post
 filled-enum-told t c = search needs
@@ -397,7 +391,7 @@ filled-enum-told-4 : (t : ℕ) → filled-lts.Need-enum-told-4 (filled-claims t)
 filled-enum-told-4 t c = search needs
 
 filled-returns-6 : (t : ℕ) → filled-lts.Need-returns-6 (filled-claims t) (filled-at t) filled.Post
-filled-returns-6 t c = fill-fails _ _ _ _ _ (c .before .before .before .before .before .before .before .before .before .before .before .before .before .before .before .before .before .before .before .args .q) _ _ _ _ (c .before .before .before .before .before .before .before .before .before .before .before .before .before .before .x .given .1) _ (c .before .before .before .before .before .before .before .before .before .before .before .before .own-message .ensures) _ (c .before .before .before .before .fill .ensures) (λ s' rests rep p. c .before .before .before .keeps .ensures .is-lost (c .before .if5 .left) s' rests (λ o a' d' is. rep o a' d' (c .before .before .before .before .before .before .before .before .before .before .before .before .before .before .x .given .1 ∙ is)) p)
+filled-returns-6 t c = fill-fails _ _ _ _ _ (c .before .before .before .before .before .before .before .before .before .before .before .before .before .before .before .before .before .before .args .q) _ _ _ _ (c .before .before .before .before .before .before .before .before .before .before .before .before .before .x .given .1) _ (c .before .before .before .before .before .before .before .before .before .before .before .own-message .ensures) _ (c .before .before .before .before .fill .ensures) (λ s' rests rep p. c .before .before .before .keeps .ensures .is-lost (c .before .if5 .left) s' rests (λ o a' d' is. rep o a' d' (c .before .before .before .before .before .before .before .before .before .before .before .before .before .x .given .1 ∙ is)) p)
 
 filled-returns-7 : (t : ℕ) → filled-lts.Need-returns-7 (filled-claims t) (filled-at t) filled.Post
 filled-returns-7 t c = fill-none _ _ _ _ _ (c .before .before .before .before .before .args .q) _ (λ y. rw (c .enum-told .given .1))
@@ -737,10 +731,7 @@ pub +blind+both-ways+filled+keeps+own-reached+search-at+search-runs+try-at-spec 
     (filled-returns t)
     (filled-enum-known-x t)
     (filled-own-message-requires t)
-    (filled-cast-number t)
-    (filled-mul-number t)
-    (filled-cast-number-2 t)
-    (filled-add-number t)
+    (filled-number-of-requires t)
     (filled-seeks-requires t)
     (filled-returns-2 t)
     (filled-with-requires t)

@@ -2,7 +2,7 @@
 -- Assumes nothing.
 use mathlib.Core.Path.{_∙_, ap, sym}
 use borrow.Author.Needs.{needs}
-use Rattle.certify.proofs.Asked.{formed}
+use Rattle.certify_runs.proofs.Ready.{formed}
 use Rattle.step.specs.Answers.{stepped}
 use Rattle.step.proofs.Stepping.{step-20, step-formed}
 use Rattle.step.proofs.checked.step.Statement.{statement}

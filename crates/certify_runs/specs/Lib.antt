@@ -1,0 +1,4 @@
+pub mod Below
+pub mod Certify
+pub mod Runs
+pub mod Inner

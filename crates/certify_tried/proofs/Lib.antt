@@ -1,0 +1,2 @@
+pub mod Unread
+pub mod Noting

@@ -1,0 +1,3 @@
+pub mod Threads
+pub mod Vacant
+pub mod Under
