@@ -1,5 +1,7 @@
 -- `certify_vain::in_vain` meets its contract.
 -- Assumes nothing.
+use mathlib.Core.Path.{refl}
+use borrow.Author.Tests.{eqb-false}
 use Rattle.certify_vain.proofs.Tries.{load-vain}
 use borrow.Author.Needs.{needs}
 use Rattle.certify_vain.proofs.in_vain.Statement.{statement}
