@@ -1,6 +1,6 @@
 -- Instructions that have one way to go on: a run from before them is a run from after them.
 -- Assumes nothing.
-use mathlib.Core.Path.{_≡_, sym, ap, subst, _∙_, refl}
+use mathlib.Core.Path.{_≡_, refl, sym, ap, subst, _∙_}
 use mathlib.Core.Logic.{inl, inr}
 use mathlib.Core.Option.{some, Option·some-injective}
 use Prim.Native.Nat.{ℕ}
@@ -17,7 +17,8 @@ use Rattle.certify_straight.specs.Straight.{plainly, Leads, here, on}
 use Rattle.certify_straight.proofs.Plain.{no-thread, plain-effect}
 use Rattle.certify_sought.specs.Aim.{Meets}
 
--- whatever executes it leaves that
+-- ---- one plain instruction
+-- whatever executes it leaves what it leaves plainly
 plain-same : {x : Instr} {m : Memory} {t : ℕ} {s s' s'' : Thread} → plainly x s ≡ some s' → Effect m t s x s'' → s'' ≡ s'
 unfolding plainly
 plain-same p (computed e) = Option·some-injective _ _ p

@@ -1,4 +1,4 @@
--- The types of the crates below, named once for this crate.
+-- The types of the crates below, named once for the rooms of certification.
 -- Assumes nothing.
 pub use Rattle.program.specs.declared.Code.{Code}
 pub use Rattle.program.specs.declared.Program.{Program}

@@ -1,4 +1,4 @@
--- What certification asks of a code, a memory and a thread before it starts, and what its laws ask.
+-- What is asked of a code, a memory and a thread before certification starts, and by its laws.
 -- Assumes nothing.
 use mathlib.Core.Path.{_≡_}
 use mathlib.Core.Option.{some}
@@ -21,7 +21,7 @@ pub record Trying (c : Code) (m : Memory) (s : Thread) (x : Instr) : Type 0 wher
   pub ready : Ready c m s
   pub is-next : instrAt c (s .position) ≡ some x
 
--- what the law asks of a thread on a memory: 16 places and 16 locations; forward times and promises are at most the message count
+-- what the candidate law asks of a thread on a memory: 16 places and 16 locations; forward times and promises are at most the message count
 pub record Sound (m : Memory) (s : Thread) : Type 0 where
   pub places : length (m .messages) ≡ 16
   pub locations : length (s .coherence) ≡ 16

@@ -13,8 +13,7 @@ use Rattle.certify_runs.specs.Below.{Operand, LoadMode, Instr, Load, Memory, Fo
 use Rattle.certify_cares.specs.Cares.{Agrees}
 use Rattle.certify_vain.specs.Tries.{Doubled, Vain}
 
--- ---- times in vain
--- time u is such a time, by what the code read: the forward pair of the location, what counted, the views and the values
+-- time u is one before t that was tried, and that t is no better than, by what the code read: the forward pair of the location, what counted, the views and the values
 pub doubled-here : (m : Memory) (s : Thread) (l : ℕ) (counted : List ℕ) (t u : ℕ) → u < t → u < length counted
     → (pair : Forward) → pair ≡ getD (s .forward) l freshForward → (v w : ℕ) → v ≡ cond (eqb u (pair .time)) (pair .view) u → w ≡ cond (eqb t (pair .time)) (pair .view) t
     → (x y : ℕ) → x ≡ readValue m u → y ≡ readValue m t → (getD counted u 0 ≡ 3 → ⊥) × ((v ≤ w) × Agrees (getD counted u 0) x y) → Doubled m s l counted t
