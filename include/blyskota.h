@@ -14,6 +14,9 @@
  * Numbers of more than one byte are little endian. Places, steps and indexes are 32 bits wide; from a file of 4 GiB or more they
  * are the low 32 bits of the number. Calls keep nothing between them, and may run at the same time on different areas.
  *
+ * Stack, by the frames of the code for x86-64: 5 KiB for blyskota_read; 48 KiB for blyskota_certify, 50 KiB for blyskota_step and
+ * 51 KiB for blyskota_replay; 202 KiB for both searches. No proof speaks of it: lend each call as much, and some for what calls it.
+ *
  * Refusals: 1 to 10 in a program file, 1 and 2 in a trace file, 20 to 29 of a step, 30 of a search; 0 is none.
  */
 #ifndef BLYSKOTA_H
