@@ -13,7 +13,7 @@ use lib.Pow.{pow-lt}
 use borrow.Author.Tests.{ne-eqb, lt-ltb}
 use Rattle.program.proofs.Tests.{and-right, is-false}
 use Rattle.machine.specs.State.{has}
-use Rattle.machine.specs.Inner.{First}
+use Rattle.machine.specs.Inner.{FirstPromise}
 use Rattle.machine.proofs.Sets.{has-positive, has-time, ones-none}
 
 -- ---- shifts
@@ -144,7 +144,7 @@ first-before p n f (suc u) h =
     rw (lt-ltb 0 (suc u) (omega arith), e, f u (omega arith))
 
 -- the first time of a set that is not empty
-pub first-of : (p : ℕ) → p < 2 ^ 16 → (p ≡ 0 → ⊥) → First p (trailingZeros 16 p + 1)
+pub first-of : (p : ℕ) → p < 2 ^ 16 → (p ≡ 0 → ⊥) → FirstPromise p (trailingZeros 16 p + 1)
 unfolding has
 first-of p h z =
     let r = lowest 16 p h z in

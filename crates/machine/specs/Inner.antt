@@ -48,7 +48,7 @@ ownStore k a d m i s =
 
 -- ---- promises
 -- t is in the set, and no time before it is
-pub record First (p t : ℕ) : Type 0 where
+pub record FirstPromise (p t : ℕ) : Type 0 where
   pub member : has p t ≡ true
   pub within : t ≤ 16
   pub before : (u : ℕ) → u < t → has p u ≡ false

@@ -3,7 +3,7 @@ ghost use mathlib.Core.Path.{_≡_};
 ghost use Prim.Native.Nat.{_-_, _^_, _<_, _≤_};
 ghost use lib.Dec.{T, eqb};
 ghost use Rattle.machine.specs.State.{has, with, without};
-ghost use Rattle.machine.specs.Inner.{First};
+ghost use Rattle.machine.specs.Inner.{FirstPromise};
 
 pub fn has(p: u16, t: u8) -> bool
     ensures { λ r. ⌜ r ≡ has p t ⌝ }
@@ -42,7 +42,7 @@ pub fn is_empty(p: u16) -> bool
 // The first time of a set that is not empty.
 pub fn first(p: u16) -> u8
     requires { ⌜ (p ≡ 0 → ⊥) ⌝ }
-    ensures { λ r. ⌜ First p r ⌝ }
+    ensures { λ r. ⌜ FirstPromise p r ⌝ }
 {
     u16::trailing_zeros(p) as u8 + 1
 }

@@ -23,7 +23,7 @@ use Rattle.machine.specs.declared.Message.{Message}
 use Rattle.machine.specs.declared.Memory.{Memory}
 use Rattle.machine.specs.declared.Thread.{Thread}
 use Rattle.machine.specs.State.{noMessage, messageAt, has, with}
-use Rattle.machine.specs.Inner.{First}
+use Rattle.machine.specs.Inner.{FirstPromise}
 use Rattle.machine.specs.Rules.{readable}
 use Rattle.machine.proofs.Sets.{has-none, has-time, has-with, has-removed, with-without, with-small, grown-small}
 use Rattle.machine.proofs.Effects.{loadLocation, Effect, computed, loaded, stored, branched, fenced, effect, readable-time}
@@ -149,7 +149,7 @@ module _ (p t : ℕ) where
   after-none l q e z =
       record { later = omega arith; within = omega arith; between = λ u h k. shifted p t u h ∙ ap (λ (n : ℕ). has n (u - t)) (sym e) ∙ none-in q (u - t) z }
 
-  pub after-first : p < 2 ^ 16 → (q f : ℕ) → q ≡ p / 2 ^ t → First q f → After p t (t + f)
+  pub after-first : p < 2 ^ 16 → (q f : ℕ) → q ≡ p / 2 ^ t → FirstPromise q f → After p t (t + f)
   after-first small q f e o =
       let pos : 0 < f = has-pos q f (o .member) in
       let l : t < t + f = omega arith in
