@@ -1,3 +1,4 @@
 pub mod Computed
 pub mod Table
+pub mod Files
 pub mod Litmus

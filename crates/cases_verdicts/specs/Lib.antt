@@ -1,3 +1,4 @@
 pub mod Written
 pub mod Cases
+pub mod Files
 pub mod Litmus

@@ -1,8 +1,8 @@
--- Promises and stores along a certifying run: no more promises are outstanding than stores are left, and so the limit of 16 messages is no limit.
+-- Promises and stores along a certifying run: no more promises are outstanding than stores are left.
 -- Assumes nothing.
 use mathlib.Core.Path.{_≡_, refl, ap}
 use mathlib.Core.Option.{none, some}
-use Prim.Native.Nat.{ℕ, suc, _+_, _≤_, _<_}
+use Prim.Native.Nat.{ℕ, suc, _+_, _≤_}
 use native.Mathlib.Omega.{arith}
 use lib.Count.{ones}
 use lib.Dec.{T}
@@ -17,7 +17,7 @@ use Rattle.machine.proofs.Effects.{storeLocation, Effect, computed, loaded, sto
 use Rattle.certify_runs.specs.Below.{Code, Operand, StoreMode, Instr, Store, Message, Memory, Thread}
 use Rattle.certify_runs.specs.Certify.{messageOf, certified}
 use Rattle.certify_runs.specs.Inner.{outstanding}
-use Rattle.certify_runs.specs.Runs.{Comes, Run, done, by, own, Certifying, Unlimited}
+use Rattle.certify_runs.specs.Runs.{Comes, Run, done, by, own}
 use Rattle.certify_runs.proofs.Iff.{certified-iff}
 
 -- an instruction takes one promise out if it is a store, else none
@@ -50,7 +50,8 @@ own-effect i m w s g (fenced e) = absurd (no-message g)
 pub own-leaves : {i : ℕ} {m : Memory} {w : Message} {s : Thread} {x : Instr} {s' : Thread} → Owned i m w s x s' → s' .promises ≡ s .promises
 own-leaves {i} {m} {w} {s} (owned e) = with-without (s .promises) (m .count + 1)
 
-own-store : {i : ℕ} {m : Memory} {w : Message} {s : Thread} {x : Instr} {s' : Thread} → Owned i m w s x s' → storesOf x ≡ 1
+-- it is one store
+pub own-store : {i : ℕ} {m : Memory} {w : Message} {s : Thread} {x : Instr} {s' : Thread} → Owned i m w s x s' → storesOf x ≡ 1
 own-store (owned e) = refl
 
 -- ---- along a run
@@ -80,23 +81,3 @@ fits r = comes-fit (λ m s e. let z = ones-none in let f = ap ones e in omega ar
 -- PROMISES FIT: a certified thread has no more promises outstanding than stores at its position and after it
 pub promises-fit : (c : Code) (i : ℕ) (m : Memory) (s : Thread) → T (certified c i m s) → outstanding s ≤ storesFrom c (s .position)
 promises-fit c i m s h = fits (certified-iff c i m s .0 h)
-
--- NO LIMIT: where the messages, and the stores left that are not promised, are at most 16, the limit of 16 messages changes nothing
-pub unlimited-is-certifying : {c : Code} {i : ℕ} {m : Memory} {s : Thread} → m .count + storesFrom c (s .position) ≤ 16 + outstanding s → Unlimited c i m s → Certifying c i m s
-unlimited-is-certifying few (done e) = done e
-unlimited-is-certifying {c} {i} {m} {s} few (by x t s' g tl e r) =
-    let h = effect x m t s s' e in
-    let b = takes h in
-    let d = stores-past c (s .position) x g in
-    let f = stores-fall c (suc (s .position)) (s' .position) (moves h) in
-    by x t s' g tl e (unlimited-is-certifying (omega arith) r)
-unlimited-is-certifying {c} {i} {m} {s} few (own x w s' g gw room e r) =
-    let h = effect x (append m w) ((append m w) .count) (addPromise (append m w) s) s' e in
-    let o = own-effect i m w s gw h in
-    let b = ap ones (own-leaves o) in
-    let one = own-store o in
-    let d = stores-past c (s .position) x g in
-    let f = stores-fall c (suc (s .position)) (s' .position) (moves h) in
-    let fit = fits r in
-    let small : m .count < 16 = omega arith in
-    own {m = m} x w s' g gw small e (unlimited-is-certifying (omega arith) r)

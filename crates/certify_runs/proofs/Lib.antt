@@ -1,7 +1,9 @@
 pub mod Iff
 pub mod Fit
+pub mod Twins
 pub mod Dead
 pub mod Candidates
 pub mod Law
 pub mod Ready
 pub mod Executes
+pub mod Limit

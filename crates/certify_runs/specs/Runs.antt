@@ -2,9 +2,10 @@
 -- Assumes nothing.
 use mathlib.Core.Path.{_≡_}
 use mathlib.Core.Option.{some}
-use Prim.Native.Nat.{ℕ, _≤_, _<_}
+use Prim.Native.Nat.{ℕ, _+_, _≤_, _<_}
+use lib.ListN.{length}
 use Rattle.program.specs.Program.{instrAt}
-use Rattle.machine.specs.State.{append}
+use Rattle.machine.specs.State.{messageAt, append}
 use Rattle.machine.specs.Rules.{next, execute, addPromise}
 use Rattle.certify_runs.specs.Below.{Code, Instr, Message, Memory, Thread}
 use Rattle.certify_runs.specs.Certify.{messageOf}
@@ -32,6 +33,12 @@ Fewer m = m .count < 16
 abbrev pub Certifying : Code → ℕ → Memory → Thread → Type 0
 Certifying = Run Fewer
 
--- a certifying run of the sources, which set no limit
+-- a certifying run of the sources, which set no limit; on a memory with room for what it appends, since a message without a place is lost
 abbrev pub Unlimited : Code → ℕ → Memory → Thread → Type 0
 Unlimited = Run (λ m. Unit {0})
+
+-- m stands for the same messages as n, and has room for k more
+pub record Roomier (m n : Memory) (k : ℕ) : Type 0 where
+  pub same-count : m .count ≡ n .count
+  pub same-messages : (t : ℕ) → 0 < t → t ≤ n .count → messageAt m t ≡ messageAt n t
+  pub room : m .count + k ≤ length (m .messages)

@@ -21,7 +21,8 @@ use Rattle.certify_runs.proofs.Iff.{onward-inv, certified-iff}
 use Rattle.certify_runs.proofs.Fit.{no-message, own-effect}
 use Rattle.certify_runs.specs.Inner.{Sound}
 use Rattle.certify_runs.proofs.Executes.{executes}
-use Rattle.search_promises.proofs.Law.{Same, turned, carry, carry-all, same-filled, own-carried, same-run, Open, positive, open-after, open-own, Hole, hole-stays, promise, promise-same, promise-hole, promise-open}
+use Rattle.certify_runs.proofs.Twins.{carry, carry-all}
+use Rattle.search_promises.proofs.Law.{Same, turned, twins, same-filled, own-carried, same-run, Open, positive, open-after, open-own, Hole, hole-stays, promise, promise-same, promise-hole, promise-open}
 
 -- ---- a run that has come up to the hole's time at a location cannot fill the hole there
 -- no coherence view falls
@@ -85,7 +86,7 @@ module _ (h k : ℕ) (m : Memory) (s : Thread) (d : Open h k m s) where
       let q' = turned (same-filled h m m' w (turned q) (positive h k m s d) (d .in-memory) (d .room) (d .places) e) in
       let room : full .count ≤ 16 = subst (λ (n : ℕ). n ≤ 16) (sym (q .same-count)) (d .room) in
       let o = onward-inv (certified c 0 full) (execute x full h s) (f .keeps) in
-      (o .0, executes (carry-all q' room (effect x full h s (o .0) (o .1))), same-run i q' room (certified-iff c 0 full (o .0) .0 (o .2)))
+      (o .0, executes (carry-all (twins q') room (effect x full h s (o .0) (o .1))), same-run i q' room (certified-iff c 0 full (o .0) .0 (o .2)))
 
 -- up to that store it does the same: a load that passes the promise would put it out of reach
 kept-run : {c : Code} (i : ℕ) {h k : ℕ} {m m' : Memory} {s : Thread} → Same h m' m → Hole h m' → Open h k m s → Meets c 0 m' s h k → Certifying c i m s
@@ -97,7 +98,7 @@ kept-run i {h} {k} {m} {m'} {s} q z d (by x t s' g tl e r) =
     ⊎-elim
     (λ f'. by x t s' g (subst (λ (c : ℕ). t ≤ c) (q .same-count) tl) (executes f') (kept-run i q z (open-after h k m s d n f') r))
     (λ p. absurd (late _ _ (d .byte) (d .number) (positive h k m s d) (p .high (d .locations)) r))
-    (carry h m' m q n f)
+    (carry h m' m (twins q) n f)
 kept-run i {h} {k} {m} {m'} {s} q z d (own x w s' g gw few e r) =
     let low = d .in-memory in
     let count = q .same-count in

@@ -1,44 +1,39 @@
 -- Exploration leaves out nothing: a promise after which the thread is certified is one that the exploration reaches, with a hole in its place that can be neither read nor fulfilled.
 -- Assumes nothing.
 use mathlib.Core.Path.{_≡_, refl, sym, ap, ap₂, _∙_, subst}
-use mathlib.Core.Logic.{_⊎_, inl, inr, ⊎-elim, _≢_}
-use mathlib.Core.Bool.{Bool, true, false, not, cond, _&&_, _||_}
+use mathlib.Core.Logic.{inr, ⊎-elim, _≢_}
 use mathlib.Core.Option.{some}
-use Prim.Native.Nat.{ℕ, zero, suc, max, _+_, _*_, _-_, _≤_, _<_}
+use Prim.Native.Nat.{ℕ, suc, _+_, _*_, _-_, _≤_, _<_}
 use native.Mathlib.Nat.{le-trans, le-max-right, mod-lt}
-use native.Mathlib.Decide.{ℕ-discrete, decLt}
+use native.Mathlib.Decide.{ℕ-discrete}
 use native.Mathlib.Omega.{arith}
-use lib.Dec.{T, eqb, leb, ltb, eqb→eq, leb→le, lit<}
+use lib.Dec.{T, lit<}
 use lib.ListN.{length, getD, set, length-set}
 use lib.Seq.{getD-set-same, getD-set-other}
 use borrow.Author.Tests.{eqb-false}
 use Rattle.theory_views.specs.Views.{viewAt, raiseAt}
 use Rattle.theory_views.proofs.Entries.{set-all, set-both}
-use Rattle.theory_views.proofs.Merging.{length-raise, raise-same, raise-reaches}
-use Rattle.program.proofs.Tests.{and-left, and-right, below-at, below-all}
-use Rattle.machine.specs.State.{noMessage, messageAt, append, has, with, freshForward, withRegister, raiseCoherence, withViews, withPromises}
-use Rattle.machine.specs.Rules.{valueOf, viewOf₂, address, advance, newer, readable, noneNewer, readValue, readView, loadViews, execute, addPromise}
+use Rattle.theory_views.proofs.Merging.{length-raise, raise-reaches}
+use Rattle.machine.specs.State.{noMessage, messageAt, append, has, with, freshForward, withPromises}
+use Rattle.machine.specs.Rules.{valueOf, address, readView, execute, addPromise}
 use Rattle.machine.proofs.Sets.{has-positive, has-none, has-without, has-with, with-without}
 use Rattle.machine.proofs.Memories.{message-stays, message-new}
-use Rattle.machine.proofs.Effects.{loadLocation, loadPreView, loadPostView, Promised, Effect, computed, loaded, stored, branched, fenced, effect, read-there, effect-time}
+use Rattle.machine.proofs.Effects.{loadLocation, loadPostView, Effect, computed, loaded, stored, branched, fenced, effect, read-there}
 use Rattle.certify_runs.specs.Below.{Code, Operand, LoadMode, Instr, Compute, Load, Store, Branch, Fence, Message, Memory, Forward, Thread}
 use Rattle.certify_runs.specs.Certify.{messageOf, certified}
 use Rattle.certify_runs.specs.Runs.{done, by, own, Certifying}
 use Rattle.certify_sought.specs.Aim.{fill, Fills, Meets}
 use Rattle.search_promises.specs.Explored.{hole, Fillable}
 use Rattle.certify_runs.proofs.Iff.{onward-next, certified-iff}
-use Rattle.certify_runs.proofs.Fit.{Owned, owned, no-message, own-effect}
+use Rattle.certify_runs.proofs.Fit.{Owned, owned, own-effect}
 use Rattle.certify_runs.proofs.Dead.{dead-ends}
 use Rattle.certify_runs.proofs.Law.{read-view}
 use Rattle.certify_runs.specs.Inner.{Sound}
 use Rattle.certify_runs.proofs.Executes.{executes}
+use Rattle.certify_runs.proofs.Twins.{Twin, Twins, carry, carry-store, carry-all}
 
 -- ---- two memories that are the same but at time h
--- messages of one location and value; no rule reads their threads
-abbrev pub Twin : Message → Message → Type 0
-Twin x y = (x .location ≡ y .location) × (x .value ≡ y .value)
-
--- as many messages, each the twin of the other but at time h
+-- as many messages on as many places, each the twin of the other but at time h
 pub record Same (h : ℕ) (m m' : Memory) : Type 0 where
   pub same-count : m .count ≡ m' .count
   pub long : length (m .messages) ≡ length (m' .messages)
@@ -48,102 +43,9 @@ pub record Same (h : ℕ) (m m' : Memory) : Type 0 where
 pub turned : {h : ℕ} {m m' : Memory} → Same h m m' → Same h m' m
 turned q = record { same-count = sym (q .same-count); long = sym (q .long); at = λ k n. let e = q .at k n in (sym (e .0), sym (e .1)) }
 
--- a load by s, which left s', has raised the coherence view of the location of the message at h up to h
-pub record Passed (h : ℕ) (m : Memory) (s s' : Thread) : Type 0 where
-  pub in-memory : h ≤ m .count
-  pub location : (messageAt m h) .location < 16
-  pub high : length (s .coherence) ≡ 16 → h ≤ viewAt (s' .coherence) ((messageAt m h) .location)
-
-module _ (h : ℕ) (m m' : Memory) (q : Same h m m') where
-  -- at another time the messages are the same
-  elsewhere : (t : ℕ) → 0 < t → t ≢ h → Twin (messageAt m t) (messageAt m' t)
-  elsewhere t p n = q .at (t - 1) (λ e. n (omega arith))
-
-  -- what can be read at another time can be read there
-  readable-same : (l t : ℕ) → t ≢ h → T (readable m l t) → T (readable m' l t)
-  unfolding readable
-  readable-same l zero n r = tt
-  readable-same l (suc t) n r = subst T (ap₂ (λ (c k : ℕ). eqb (suc t) 0 || (leb (suc t) c && eqb k l)) (q .same-count) (elsewhere (suc t) (omega arith) n .0)) r
-
-  -- its value is the same
-  read-same : (t : ℕ) → t ≢ h → readValue m t ≡ readValue m' t
-  unfolding readValue
-  read-same zero n = refl
-  read-same (suc t) n = ap (λ (z : ℕ). cond (eqb (suc t) 0) 0 z) (elsewhere (suc t) (omega arith) n .1)
-
-  -- where no message is newer none is, if the one at h is not
-  newer-but : (l t v : ℕ) → (h ≤ m' .count → T (not (newer m' l t v h))) → T (noneNewer m l t v) → T (noneNewer m' l t v)
-  unfolding noneNewer
-  newer-but l t v other r = below-all _ (m' .count) (λ k kl. go k kl (ℕ-discrete (suc k) h) (below-at _ (m .count) r k (subst (λ (n : ℕ). k < n) (sym (q .same-count)) kl)))
-    where
-      go : (k : ℕ) → k < m' .count → Dec (suc k ≡ h) → T (not (newer m l t v (suc k))) → T (not (newer m' l t v (suc k)))
-      go k kl (yes e) z = subst (λ (n : ℕ). T (not (newer m' l t v n))) (sym e) (other (omega arith))
-      go k kl (no n) z = subst (λ (j : ℕ). T (not (eqb j l && ltb t (suc k) && leb (suc k) v))) (elsewhere (suc k) (omega arith) n .0) z
-
-  -- where no message is newer none is, or the one at h is
-  newer-same : (l t v : ℕ) → T (noneNewer m l t v) → T (noneNewer m' l t v) ⊎ ((h ≤ m' .count) × ((messageAt m' h) .location ≡ l) × (h ≤ v))
-  newer-same l t v r = go (newer m' l t v h) refl (decLt (m' .count) h)
-    where
-      here : Bool
-      here = eqb ((messageAt m' h) .location) l
-
-      go : (b : Bool) → newer m' l t v h ≡ b → Dec (m' .count < h) → T (noneNewer m' l t v) ⊎ ((h ≤ m' .count) × ((messageAt m' h) .location ≡ l) × (h ≤ v))
-      go false e d = inl (newer-but l t v (λ low. subst (λ (b : Bool). T (not b)) (sym e) tt) r)
-      go true e (yes far) = inl (newer-but l t v (λ low. absurd (omega arith)) r)
-      go true e (no near) =
-          let z : T (here && ltb t h && leb h v) = subst T (sym e) tt in
-          inr (omega arith, eqb→eq _ l (and-left here (ltb t h) (and-left (here && ltb t h) (leb h v) z)), leb→le h v (and-right (here && ltb t h) (leb h v) z))
-
-  -- what is promised at another time is promised there
-  promised-same : (t l v : ℕ) (s : Thread) → t ≢ h → Promised m t l v s → Promised m' t l v s
-  promised-same t l v s n p =
-      let e = elsewhere t (has-positive (s .promises) t (p .out)) n in
-      record {
-        out = p .out;
-        in-memory = subst (λ (k : ℕ). t ≤ k) (q .same-count) (p .in-memory);
-        at-location = sym (e .0) ∙ p .at-location;
-        at-value = sym (e .1) ∙ p .at-value;
-      }
-
-  -- THE KEY LEMMA: an instruction at another time than h does to the thread on the one memory what it does on the other, or it is a load that passes the message at h
-  pub carry : {t : ℕ} {s : Thread} {x : Instr} {s' : Thread} → t ≢ h → Effect m t s x s' → Effect m' t s x s' ⊎ Passed h m' s s'
-  carry n (computed e) = inl (computed e)
-  carry {t} {s} n (loaded {k} {r} {a} {b} d e) =
-      let l = loadLocation s a b in
-      let post = loadPostView k s a b t in
-      let small : l < 16 = mod-lt (valueOf s a + valueOf s b) (lit< tt) in
-      ⊎-elim
-      (λ none. inl (subst (λ (z : ℕ). Effect m' t s (Load k r a b) (advance 1 (withViews (loadViews k (viewOf₂ s a b) post (s .views)) (raiseCoherence l post (withRegister r z post s))))) (sym (read-same t n))
-      (loaded {k = k} {r = r} {a = a} {b = b} (readable-same l t n d) none)))
-      (λ p. inr (record {
-        in-memory = p .0;
-        location = subst (λ (j : ℕ). j < 16) (sym (p .1)) small;
-        high = λ places. subst (λ (j : ℕ). h ≤ viewAt (raiseAt (s .coherence) l post) j) (sym (p .1))
-            (subst (λ (j : ℕ). h ≤ j) (sym (raise-same (s .coherence) l post (subst (λ (j : ℕ). l < j) (sym places) small)))
-            (up (loadPreView k s a b) (viewAt (s .coherence) l) (readView s l t) (p .2)));
-      }))
-      (newer-same l t _ e)
-    where
-      up : (x y z : ℕ) → h ≤ max x y → h ≤ max y (max x z)
-      up x y z le = omega arith
-  carry {t} {s} n (stored p x y) = inl (stored (promised-same t _ _ s n p) x y)
-  carry n (branched e) = inl (branched e)
-  carry n (fenced e) = inl (fenced e)
-
-  -- an instruction that has a message is a store, and passes none
-  carry-store : (i : ℕ) (y : Thread) (x : Instr) {w : Message} → messageOf i y x ≡ some w → {t : ℕ} {s s' : Thread} → t ≢ h → Effect m t s x s' → Effect m' t s x s'
-  carry-store i y x g n (computed e) = absurd (no-message g)
-  carry-store i y x g n (loaded d e) = absurd (no-message g)
-  carry-store i y x g {t} {s} n (stored p low high) = stored (promised-same t _ _ s n p) low high
-  carry-store i y x g n (branched e) = absurd (no-message g)
-  carry-store i y x g n (fenced e) = absurd (no-message g)
-
--- where all messages are twins every instruction does the same
-pub carry-all : {m m' : Memory} → Same 17 m m' → m .count ≤ 16 → {t : ℕ} {s : Thread} {x : Instr} {s' : Thread} → Effect m t s x s' → Effect m' t s x s'
-carry-all {m} {m'} q room f =
-    let count = q .same-count in
-    let early = effect-time f in
-    ⊎-elim (λ g. g) (λ p. let late = p .in-memory in absurd (omega arith)) (carry 17 m m' q (λ z. omega arith) f)
+-- the messages that stand are twins
+pub twins : {h : ℕ} {m m' : Memory} → Same h m m' → Twins h m m'
+twins q = record { same-count = q .same-count; at = λ t p l n. q .at (t - 1) (λ e. n (omega arith)) }
 
 -- messages of one location and value are appended to both
 same-append : (h : ℕ) (m m' : Memory) (w w' : Message) → Same h m m' → Twin w w' → Same h (append m w) (append m' w')
@@ -191,14 +93,14 @@ own-carried {h} {m} {m'} q apart i j s x w gw {s'} f =
     let o = own-other i j s x w gw in
     let w' = o .0 in
     let q' = same-append h m m' w w' q (o .2) in
-    let f' = carry-store h (append m w) (append m' w') q' i s x gw apart f in
+    let f' = carry-store h (append m w) (append m' w') (twins q') i s x gw apart f in
     (w', o .1, q', subst (λ (n : ℕ). Effect (append m' w') (n + 1) (withPromises (with (s .promises) (n + 1)) s) x s') (q .same-count) f')
 
 -- WHO STORED IS NEVER READ: on memories whose messages are twins a thread has the same certifying runs
 pub same-run : {c : Code} {i : ℕ} (j : ℕ) {m m' : Memory} {s : Thread} → Same 17 m m' → m .count ≤ 16 → Certifying c i m s → Certifying c j m' s
 same-run j q room (done e) = done e
 same-run j {m} {m'} {s} q room (by x t s' g tl e r) =
-    by x t s' g (subst (λ (c : ℕ). t ≤ c) (q .same-count) tl) (executes (carry-all q room (effect x m t s s' e))) (same-run j q room r)
+    by x t s' g (subst (λ (c : ℕ). t ≤ c) (q .same-count) tl) (executes (carry-all (twins q) room (effect x m t s s' e))) (same-run j q room r)
 same-run {c} {i} j {m} {m'} {s} q room (own x w s' g gw few e r) =
     let o = own-carried q (λ z. omega arith) i j s x w gw (effect x (append m w) ((append m w) .count) (addPromise (append m w) s) s' e) in
     own x (o .0) s' g (o .1) (subst (λ (n : ℕ). n < 16) (q .same-count) few) (executes (o .3)) (same-run j (o .2) (omega arith) r)
@@ -268,7 +170,7 @@ module _ (h k : ℕ) (m : Memory) (s : Thread) (d : Open h k m s) where
       let full = fill m' h w in
       let room = d .room in
       let q' = same-filled h m m' w q positive (d .in-memory) room (d .places) (p .at-location, p .at-value) in
-      let f = carry-all q' room (stored {k = o} {a = a} {d = b} p pre low) in
+      let f = carry-all (twins q') room (stored {k = o} {a = a} {d = b} p pre low) in
       record {
         message = w;
         is-own = refl;
@@ -295,7 +197,7 @@ explored-run {c} {i} {h} {k} {m} {m'} {s} q z d (by x t s' g tl e r) =
     elim (ℕ-discrete t h) [
       | yes p ↦ done (inr (x, g, at-hole h k m s d q (subst (λ (u : ℕ). Effect m u s x s') p f) r))
       | no n ↦
-          let f' = ⊎-elim (λ y. y) (λ p. let low = p .location in absurd (omega arith)) (carry h m m' q n f) in
+          let f' = ⊎-elim (λ y. y) (λ p. let low = p .location in absurd (omega arith)) (carry h m m' (twins q) n f) in
           by x t s' g (subst (λ (c : ℕ). t ≤ c) (q .same-count) tl) (executes f') (explored-run q z (open-after h k m s d n f) r)
     ]
 explored-run {c} {i} {h} {k} {m} {m'} {s} q z d (own x w s' g gw few e r) =

@@ -6,6 +6,7 @@ use mathlib.Core.Option.{some}
 use Prim.Native.Nat.{ℕ, suc, _+_, _≤_, _<_}
 use native.Mathlib.Decide.{ℕ-discrete}
 use native.Mathlib.Omega.{arith}
+use lib.ListN.{length-set}
 use lib.Dec.{T, eqb, leb, ltb, ltb→lt, not-T, nltb→le}
 use borrow.Author.Tests.{eqb-false}
 use Rattle.program.specs.Tests.{sumBelow}
@@ -15,21 +16,24 @@ use Rattle.program.specs.WellFormed.{programTest}
 use Rattle.program.proofs.Tests.{and-left}
 use Rattle.program.proofs.Counts.{sum-same, sum-one}
 use Rattle.program.proofs.Formed.{ProgramOk, program-ok}
-use Rattle.machine.specs.State.{freshThread, fresh, threadOf}
+use Rattle.machine.specs.State.{freshThread, fresh, threadOf, append, with, withPromises}
+use Rattle.machine.specs.Rules.{addPromise}
 use Rattle.machine.specs.WellFormed.{machineTest}
 use Rattle.machine.proofs.Sets.{ones-none}
 use Rattle.machine.proofs.Effects.{Effect}
-use Rattle.machine.proofs.Formed.{MachineOk}
+use Rattle.machine.proofs.Formed.{MachineOk, machine-iff}
 use Rattle.certify_runs.specs.Certify.{certified}
-use Rattle.certify_runs.specs.Runs.{Run, Unlimited}
+use Rattle.certify_runs.specs.Runs.{Run, Unlimited, Roomier}
 use Rattle.certify_runs.proofs.Iff.{certified-iff}
-use Rattle.certify_runs.proofs.Fit.{fits, promises-fit, unlimited-is-certifying}
+use Rattle.certify_runs.proofs.Fit.{fits, promises-fit}
+use Rattle.certify_runs.proofs.Limit.{roomier-append, unlimited-is-certifying}
 use Rattle.certify_runs.specs.Inner.{outstanding}
-use Rattle.step.specs.Below.{Code, Program, Instr, Memory, Thread, Machine}
+use Rattle.step.specs.Below.{Code, Program, Instr, Message, Memory, Thread, Machine}
 use Rattle.step.specs.Step.{Step, Decision, rejected, check, settle, promiseStep, kindStep, ruleStep, step}
 use Rattle.step.specs.Order.{promise}
 use Rattle.step.specs.Reached.{Reached, start, on}
 use Rattle.step.proofs.Backwards.{moved, promisedMemory, promisedThread, Did, executed, promised, did}
+use Rattle.step.proofs.Kept.{reached-formed}
 use Rattle.step.proofs.Bound.{moved-same, moved-other, sum-moved, instruction-left, in-array, one-promise, well-formed, fresh-thread}
 
 -- the stores left to a thread, and its promises outstanding, as numbers of its code and state
@@ -99,14 +103,18 @@ counted p (on {x = x} k y r e) =
     counted-did p x (f .0) (f .1) (counted p r) (did p x y k e .2)
 
 -- ---- the limit is no limit
-module _ (p : Program) {x : Machine} (r : Reached p x) (few : stores p ≤ 16) (i : ℕ) (h : i < p .threads) where
+module _ (p : Program) (formed : T (programTest p)) {x : Machine} (r : Reached p x) (i : ℕ) (h : i < p .threads) where
   -- the messages, and the stores left to the thread that are not promised, are at most 16
   roomy : x .memory .count + storesLeft (codeOf p i) (threadOf x i) ≤ 16 + promisesOut (codeOf p i) (threadOf x i)
   roomy =
+      let few = program-ok p formed .few-stores in
       let w = counted p r in
       let wm = w .messages in
       let t = sum-one (λ j. promisesOut (codeOf p j) (threadOf x j)) (λ j. storesLeft (codeOf p j) (threadOf x j)) (p .threads) i h (w .fit) in
       omega arith
+
+  machine-ok : MachineOk p x
+  machine-ok = machine-iff p (program-ok p formed .few-threads) x .0 (reached-formed p formed r)
 
   -- where 16 messages stand, one promise more could not be kept: not on any memory, and not without a limit on it either
   pub no-room-needed : 16 ≤ x .memory .count → {Room : Memory → Type 0} (m : Memory) (s : Thread) → s .position ≡ (threadOf x i) .position
@@ -117,22 +125,34 @@ module _ (p : Program) {x : Machine} (r : Reached p x) (few : stores p ≤ 16) (
       let q = ap (storesFrom (codeOf p i)) e in
       omega arith
 
-  -- NO LIMIT, executing: after an executed instruction the thread is certified if it is so without the limit
+  -- NO LIMIT, executing: after an executed instruction the thread is certified if it is so without the limit, on a memory with room for all its stores left
   pub no-limit-execute : (c : Instr) (t : ℕ) (s : Thread) → instrAt (codeOf p i) ((threadOf x i) .position) ≡ some c → Effect (x .memory) t (threadOf x i) c s
-      → Unlimited (codeOf p i) i (x .memory) s → T (certified (codeOf p i) i (x .memory) s)
-  no-limit-execute c t s g e u =
+      → (m : Memory) → Roomier m (x .memory) (storesFrom (codeOf p i) (s .position)) → Unlimited (codeOf p i) i m s → T (certified (codeOf p i) i (x .memory) s)
+  no-limit-execute c t s g e m q u =
       let a = roomy in
       let b = instruction-left (codeOf p i) c g e .1 in
-      certified-iff (codeOf p i) i (x .memory) s .1 (unlimited-is-certifying (omega arith) u)
+      certified-iff (codeOf p i) i (x .memory) s .1 (unlimited-is-certifying _ q (omega arith) (machine-ok .memory-ok .places) (omega arith) u)
 
-  -- NO LIMIT, promising: a promise that could be certified without the limit finds room, and is certified with it
-  pub no-limit-promise : MachineOk p x → ProgramOk p → (l v : ℕ) → Unlimited (codeOf p i) i (promisedMemory x i l v) (promisedThread x i l v)
+  -- NO LIMIT, promising: a promise that could be certified without the limit, on a memory with room for all the thread's stores left (it is one of them), finds room, and is certified with it
+  pub no-limit-promise : (l v : ℕ) (m : Memory) → Roomier m (x .memory) (storesFrom (codeOf p i) ((threadOf x i) .position))
+      → let m' = append m (record { location = l; value = v; thread = i }) in Unlimited (codeOf p i) i m' (addPromise m' (threadOf x i))
       → (x .memory .count < 16) × T (certified (codeOf p i) i (promisedMemory x i l v) (promisedThread x i l v))
-  no-limit-promise mo po l v u =
+  no-limit-promise l v m q u =
+      let n = x .memory in
+      let s = threadOf x i in
+      let w : Message = record { location = l; value = v; thread = i } in
+      let m' = append m w in
+      let u' : Unlimited (codeOf p i) i m' (promisedThread x i l v) = subst (λ (c : ℕ). Unlimited (codeOf p i) i m' (withPromises (with (s .promises) (c + 1)) s)) (q .same-count) u in
       let a = roomy in
-      let o = one-promise p x po mo i l v h in
-      let f = fits u in
-      (omega arith, certified-iff (codeOf p i) i (promisedMemory x i l v) (promisedThread x i l v) .1 (unlimited-is-certifying (omega arith) u))
+      let places = machine-ok .memory-ok .places in
+      let o = one-promise p x (program-ok p formed) machine-ok i l v h in
+      let f = fits u' in
+      let room : n .count < 16 = omega arith in
+      let q' = roomier-append w q (omega arith) (omega arith) in (
+        room,
+        certified-iff (codeOf p i) i (promisedMemory x i l v) (promisedThread x i l v) .1
+            (unlimited-is-certifying _ q' (omega arith) (length-set (n .messages) (n .count) w ∙ places) (omega arith) u'),
+      )
 
 -- ---- refusal 24
 pub refused-later : (b : Bool) (n m : ℕ) (o : Decision) → check b n o ≡ rejected m → (n ≡ m → ⊥) → T b × (o ≡ rejected m)
@@ -162,4 +182,4 @@ pub room : (p : Program) {x : Machine} → Reached p x → (i l v : ℕ) → ste
     → {Room : Memory → Type 0} (m : Memory) (s : Thread) → s .position ≡ (threadOf x i) .position → outstanding s ≡ suc (outstanding (threadOf x i)) → Run Room (codeOf p i) i m s → ⊥
 room p {x} r i l v e =
     let q = refused-24 p x i l v e in
-    no-room-needed p r (program-ok p (q .0) .few-stores) i (q .1) (q .2)
+    no-room-needed p (q .0) r i (q .1) (q .2)
