@@ -6,9 +6,6 @@ use Rattle.capi.proofs.Called.{search-short, search-answered}
 use Rattle.capi.proofs.blyskota_search.Statement.{statement}
 use Rattle.capi.proofs.blyskota_search.Tie as tie
 
-returns : tie.Need-returns
-returns c = search-short _ _ _ _ (c .if1 .taken)
-
 put-searched-requires : tie.Need-put-searched-requires
 put-searched-requires c κs = let s = c .before .before in (s .before .before .before .if1 .left, few-steps _ _ _ _ _ (s .search .ensures))
 
@@ -19,4 +16,4 @@ returns-2 c =
     search-answered _ _ _ _ _ _ _ (s .before .before .before .if1 .left) (s .search .ensures) (w .put-searched .ensures)
 
 pub blyskota-search-spec : {M : Type 1} → statement M
-blyskota-search-spec = tie.close (tie.spec returns (λ c κs. search needs) put-searched-requires (λ c. search needs) (λ c. search needs) returns-2)
+blyskota-search-spec = tie.close (tie.spec (λ c. search-short _ _ _ _ (c .if1 .taken)) (λ c κs. search needs) put-searched-requires (λ c. search needs) (λ c. search needs) returns-2)

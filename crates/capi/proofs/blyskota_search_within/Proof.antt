@@ -7,9 +7,6 @@ use Rattle.capi.proofs.Called.{within-short, within-answered}
 use Rattle.capi.proofs.blyskota_search_within.Statement.{statement}
 use Rattle.capi.proofs.blyskota_search_within.Tie as tie
 
-returns : tie.Need-returns
-returns c = within-short _ _ _ _ _ (omega arith)
-
 put-within-requires : tie.Need-put-within-requires
 put-within-requires c κs =
     let s = c .before .before .before .before in
@@ -23,4 +20,4 @@ returns-2 c =
 
 pub blyskota-search-within-spec : {M : Type 1} → statement M
 blyskota-search-within-spec =
-    tie.close (tie.spec returns (λ c κs. search needs) put-within-requires (λ c. search needs) (λ c. search needs) (λ c. search needs) returns-2)
+    tie.close (tie.spec (λ c. within-short _ _ _ _ _ (omega arith)) (λ c κs. search needs) put-within-requires (λ c. search needs) (λ c. search needs) (λ c. search needs) returns-2)

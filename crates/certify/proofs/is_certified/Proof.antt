@@ -5,14 +5,8 @@ use borrow.Author.Needs.{needs}
 use Rattle.certify.proofs.is_certified.Statement.{statement}
 use Rattle.certify.proofs.is_certified.Tie as tie
 
-certified-requires : tie.Need-certified-requires
-certified-requires c κs = search needs
-
-two-reached-requires : tie.Need-two-reached-requires
-two-reached-requires c κs = c .before .pre
-
 returns : tie.Need-returns
 returns c = found-certified _ _ _ _ _ (rw (c .before .before .certified .ensures) at (c .before .two-reached .ensures))
 
 pub is-certified-spec : {M : Type 1} → statement M
-is-certified-spec = tie.close (tie.spec certified-requires two-reached-requires returns)
+is-certified-spec = tie.close (tie.spec (λ c κs. search needs) (λ c κs. c .before .pre) returns)

@@ -7,23 +7,8 @@ use borrow.Author.Needs.{needs}
 use Rattle.certify_cares.proofs.agrees.Statement.{statement}
 use Rattle.certify_cares.proofs.agrees.Tie as tie
 
-returns : tie.Need-returns
-returns c = λ e. same (c .if1 .taken)
-
-allows-requires : tie.Need-allows-requires
-allows-requires c κs = search needs
-
-returns-2 : tie.Need-returns-2
-returns-2 c = λ e. absurd (eqb-false 0 1 refl cc)
-
 returns-3 : tie.Need-returns-3
 returns-3 c = λ e. alike (c .before .before .allows .ensures (not-false _ (c .before .if2 .left))) (λ m. c .if3 .taken)
-
-cast-marked : tie.Need-cast-marked
-cast-marked c = search needs
-
-marked-requires : tie.Need-marked-requires
-marked-requires c κs = search needs
 
 returns-4 : tie.Need-returns-4
 returns-4 c = λ e. alike (c .before .before .before .allows .ensures (not-false _ (c .before .before .if2 .left))) (λ m. absurd (c .marked .ensures .1 (not-true _ e) m))
@@ -31,4 +16,4 @@ returns-4 c = λ e. alike (c .before .before .before .allows .ensures (not-false
 pub agrees-spec : {M : Type 1} → statement M
 agrees-spec =
     tie.close
-    (tie.spec returns allows-requires returns-2 returns-3 cast-marked marked-requires returns-4)
+    (tie.spec (λ c e. same (c .if1 .taken)) (λ c κs. search needs) (λ c e. absurd (eqb-false 0 1 refl cc)) returns-3 (λ c. search needs) (λ c κs. search needs) returns-4)

@@ -10,31 +10,13 @@ use borrow.Author.Needs.{needs}
 use Rattle.certify_cares.proofs.allows.Statement.{statement}
 use Rattle.certify_cares.proofs.allows.Tie as tie
 
-returns : tie.Need-returns
-returns c = λ e. free (c .if1 .taken)
-
-returns-2 : tie.Need-returns-2
-returns-2 c = λ e. absurd (eqb-false 0 1 refl cc)
-
-add-result : tie.Need-add-result
-add-result c = search needs
-
 returns-3 : tie.Need-returns-3
 returns-3 c = λ e. other (c .before .if2 .left) (c .if3 .taken) (λ k. let a = c .before .before .before .args in let h = c .before .before .before .fits .y in eqb-false (a .code) (256 + a .y) (not-true _ e) (omega arith))
-
-add-result-2 : tie.Need-add-result-2
-add-result-2 c = search needs
 
 returns-4 : tie.Need-returns-4
 returns-4 c = λ e. above (c .before .if3 .left) (c .if4 .taken) (leb→le _ _ (subst T (sym e) tt))
 
-add-result-3 : tie.Need-add-result-3
-add-result-3 c = search needs
-
-returns-5 : tie.Need-returns-5
-returns-5 c = λ e. below (ltb→lt _ _ (subst T (sym e) tt))
-
 pub allows-spec : {M : Type 1} → statement M
 allows-spec =
     tie.close
-    (tie.spec returns returns-2 add-result returns-3 add-result-2 returns-4 add-result-3 returns-5)
+    (tie.spec (λ c e. free (c .if1 .taken)) (λ c e. absurd (eqb-false 0 1 refl cc)) (λ c. search needs) returns-3 (λ c. search needs) returns-4 (λ c. search needs) (λ c e. below (ltb→lt _ _ (subst T (sym e) tt))))

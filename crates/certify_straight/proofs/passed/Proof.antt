@@ -7,9 +7,6 @@ use borrow.Author.Needs.{needs}
 use Rattle.certify_straight.proofs.passed.Statement.{statement}
 use Rattle.certify_straight.proofs.passed.Tie as tie
 
-add-result : tie.Need-add-result
-add-result c = search needs
-
 returns : tie.Need-returns
 returns c = (rw (eq-eqb _ _ (c .if1 .taken)) refl, (omega arith, omega arith))
 
@@ -17,4 +14,4 @@ returns-2 : tie.Need-returns-2
 returns-2 c = (rw (ne-eqb _ _ (c .if1 .left)) refl, (omega arith, omega arith))
 
 pub passed-spec : {M : Type 1} → statement M
-passed-spec = tie.close (tie.spec add-result returns returns-2)
+passed-spec = tie.close (tie.spec (λ c. search needs) returns returns-2)

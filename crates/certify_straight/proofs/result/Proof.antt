@@ -8,12 +8,6 @@ use borrow.Author.Needs.{needs}
 use Rattle.certify_straight.proofs.result.Statement.{statement}
 use Rattle.certify_straight.proofs.result.Tie as tie
 
-wrapping-add-u8-requires : tie.Need-wrapping-add-u8-requires
-wrapping-add-u8-requires c κs = search needs
-
-wrapping-sub-u8-requires : tie.Need-wrapping-sub-u8-requires
-wrapping-sub-u8-requires c κs = search needs
-
 returns : tie.Need-returns
 unfolding combine computeMode
 returns c = rw (c .wrapping-add-u8 .ensures, c .before .match .keys1)
@@ -38,8 +32,8 @@ pub result-spec : {M : Type 1} → statement M
 result-spec =
     tie.close
     (tie.spec
-    wrapping-add-u8-requires
-    wrapping-sub-u8-requires
+    (λ c κs. search needs)
+    (λ c κs. search needs)
     returns
     returns-2
     returns-3

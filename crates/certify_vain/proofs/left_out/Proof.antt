@@ -7,17 +7,11 @@ use Rattle.certify_vain.proofs.Passing.{left-out, left-in}
 use Rattle.certify_vain.proofs.left_out.Statement.{statement}
 use Rattle.certify_vain.proofs.left_out.Tie as tie
 
-has-requires : tie.Need-has-requires
-has-requires c κs = search needs
-
 without-requires : tie.Need-without-requires
 without-requires c κs = subst T (sym (sym (c .before .has .ensures) ∙ c .if1 .taken)) tt
 
 returns : tie.Need-returns
 returns c = left-out _ _ _ (subst T (sym (sym (c .before .before .has .ensures) ∙ c .before .if1 .taken)) tt) (c .without .ensures)
 
-returns-2 : tie.Need-returns-2
-returns-2 c = left-in _ _
-
 pub left-out-spec : {M : Type 1} → statement M
-left-out-spec = tie.close (tie.spec has-requires without-requires returns returns-2)
+left-out-spec = tie.close (tie.spec (λ c κs. search needs) without-requires returns (λ c. left-in _ _))

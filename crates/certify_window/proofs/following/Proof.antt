@@ -5,45 +5,6 @@ use Rattle.certify_window.proofs.Window.{load-following, store-followin
 use Rattle.certify_window.proofs.following.Statement.{statement}
 use Rattle.certify_window.proofs.following.Tie as tie
 
-enum-known-x : tie.Need-enum-known-x
-enum-known-x c = search needs
-
-value-of-requires : tie.Need-value-of-requires
-value-of-requires c κs = search needs
-
-value-of-requires-2 : tie.Need-value-of-requires-2
-value-of-requires-2 c κs = search needs
-
-address-of-sum-requires : tie.Need-address-of-sum-requires
-address-of-sum-requires c κs = search needs
-
-next-message-requires : tie.Need-next-message-requires
-next-message-requires c κs = search needs
-
-enum-known-x-2 : tie.Need-enum-known-x-2
-enum-known-x-2 c = search needs
-
-value-of-requires-3 : tie.Need-value-of-requires-3
-value-of-requires-3 c κs = search needs
-
-address-requires : tie.Need-address-requires
-address-requires c κs = search needs
-
-value-of-requires-4 : tie.Need-value-of-requires-4
-value-of-requires-4 c κs = search needs
-
-next-kept-requires : tie.Need-next-kept-requires
-next-kept-requires c κs = search needs
-
-enum-told : tie.Need-enum-told
-enum-told c = search needs
-
-enum-told-2 : tie.Need-enum-told-2
-enum-told-2 c = search needs
-
-enum-told-3 : tie.Need-enum-told-3
-enum-told-3 c = search needs
-
 returns : tie.Need-returns
 returns c = load-following _ _ _ _ _ _ _ (c .before .before .before .before .before .x .given .1) _ (rw (c .before .before .before .value-of .ensures, c .before .before .value-of2 .ensures) at (c .before .address-of-sum .ensures .0)) _ _ (c .next-message .ensures)
 
@@ -63,19 +24,19 @@ pub following-spec : {M : Type 1} → statement M
 following-spec =
     tie.close
     (tie.spec
-    enum-known-x
-    value-of-requires
-    value-of-requires-2
-    address-of-sum-requires
-    next-message-requires
-    enum-known-x-2
-    value-of-requires-3
-    address-requires
-    value-of-requires-4
-    next-kept-requires
-    enum-told
-    enum-told-2
-    enum-told-3
+    (λ c. search needs)
+    (λ c κs. search needs)
+    (λ c κs. search needs)
+    (λ c κs. search needs)
+    (λ c κs. search needs)
+    (λ c. search needs)
+    (λ c κs. search needs)
+    (λ c κs. search needs)
+    (λ c κs. search needs)
+    (λ c κs. search needs)
+    (λ c. search needs)
+    (λ c. search needs)
+    (λ c. search needs)
     returns
     returns-2
     returns-3

@@ -5,26 +5,11 @@ use Rattle.program.proofs.Reading.{marked-short, marked-first, marked-second, m
 use Rattle.file_cursor.proofs.fault.Statement.{statement}
 use Rattle.file_cursor.proofs.fault.Tie as tie
 
-sub-if1 : tie.Need-sub-if1
-sub-if1 c = search needs
-
-add-if1 : tie.Need-add-if1
-add-if1 c = search needs
-
 returns : tie.Need-returns
 returns c = λ on. marked-short _ _ _ _ _ on (c .before .pre .0) (c .if1 .taken)
 
-shared-slice-read-if2 : tie.Need-shared-slice-read-if2
-shared-slice-read-if2 c = search needs
-
 returns-2 : tie.Need-returns-2
 returns-2 c = λ on. marked-first _ _ _ _ _ on (c .before .before .before .pre .0) (c .before .before .if1 .left) (c .if2 .taken)
-
-add-if3 : tie.Need-add-if3
-add-if3 c = search needs
-
-shared-slice-read-if3 : tie.Need-shared-slice-read-if3
-shared-slice-read-if3 c = search needs
 
 returns-3 : tie.Need-returns-3
 returns-3 c = λ on. marked-right _ _ _ _ _ on (c .before .before .before .before .before .pre .0) (c .before .before .before .before .if1 .left) (c .before .before .if2 .left) (c .if3 .taken)
@@ -36,12 +21,12 @@ pub fault-spec : {M : Type 1} → statement M
 fault-spec =
     tie.close
     (tie.spec
-    sub-if1
-    add-if1
+    (λ c. search needs)
+    (λ c. search needs)
     returns
-    shared-slice-read-if2
+    (λ c. search needs)
     returns-2
-    add-if3
-    shared-slice-read-if3
+    (λ c. search needs)
+    (λ c. search needs)
     returns-3
     returns-4)

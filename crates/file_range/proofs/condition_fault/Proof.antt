@@ -11,15 +11,9 @@ returns : tie.Need-returns
 unfolding firstFailing
 returns c = rw (lt-leb _ _ (c .if1 .taken))
 
-thread-ok-requires : tie.Need-thread-ok-requires
-thread-ok-requires c κs = search needs
-
 returns-2 : tie.Need-returns-2
 unfolding firstFailing
 returns-2 c = rw (le-leb _ _ (c .before .before .if1 .left), sym (c .before .thread-ok .ensures) ∙ not-true _ (c .if2 .taken))
-
-index-limit-requires : tie.Need-index-limit-requires
-index-limit-requires c κs = search needs
 
 returns-3 : tie.Need-returns-3
 unfolding firstFailing
@@ -32,4 +26,4 @@ returns-4 c = rw (le-leb _ _ (c .before .before .before .before .before .if1 .le
 pub condition-fault-spec : {M : Type 1} → statement M
 condition-fault-spec =
     tie.close
-    (tie.spec returns thread-ok-requires returns-2 index-limit-requires returns-3 returns-4)
+    (tie.spec returns (λ c κs. search needs) returns-2 (λ c κs. search needs) returns-3 returns-4)

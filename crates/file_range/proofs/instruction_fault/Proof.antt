@@ -11,43 +11,25 @@ returns : tie.Need-returns
 unfolding firstFailing
 returns c = rw (lt-leb _ _ (c .if1 .taken))
 
-mode-ok-requires : tie.Need-mode-ok-requires
-mode-ok-requires c κs = search needs
-
 returns-2 : tie.Need-returns-2
 unfolding firstFailing
 returns-2 c = rw (le-leb _ _ (c .before .before .if1 .left), sym (c .before .mode-ok .ensures) ∙ not-true _ (c .if2 .taken))
-
-register-ok-requires : tie.Need-register-ok-requires
-register-ok-requires c κs = search needs
 
 returns-3 : tie.Need-returns-3
 unfolding firstFailing
 returns-3 c = rw (le-leb _ _ (c .before .before .before .before .if1 .left), sym (c .before .before .before .mode-ok .ensures) ∙ not-false _ (c .before .before .if2 .left), sym (c .before .register-ok .ensures) ∙ not-true _ (c .if3 .taken))
 
-kind-ok-requires : tie.Need-kind-ok-requires
-kind-ok-requires c κs = search needs
-
 returns-4 : tie.Need-returns-4
 unfolding firstFailing
 returns-4 c = rw (le-leb _ _ (c .before .before .before .before .before .before .if1 .left), sym (c .before .before .before .before .before .mode-ok .ensures) ∙ not-false _ (c .before .before .before .before .if2 .left), sym (c .before .before .before .register-ok .ensures) ∙ not-false _ (c .before .before .if3 .left), sym (c .before .kind-ok .ensures) ∙ not-true _ (c .if4 .taken))
-
-number-ok-requires : tie.Need-number-ok-requires
-number-ok-requires c κs = search needs
 
 returns-5 : tie.Need-returns-5
 unfolding firstFailing
 returns-5 c = rw (le-leb _ _ (c .before .before .before .before .before .before .before .before .if1 .left), sym (c .before .before .before .before .before .before .before .mode-ok .ensures) ∙ not-false _ (c .before .before .before .before .before .before .if2 .left), sym (c .before .before .before .before .before .register-ok .ensures) ∙ not-false _ (c .before .before .before .before .if3 .left), sym (c .before .before .before .kind-ok .ensures) ∙ not-false _ (c .before .before .if4 .left), sym (c .before .number-ok .ensures) ∙ not-true _ (c .if5 .taken))
 
-kind-ok-requires-2 : tie.Need-kind-ok-requires-2
-kind-ok-requires-2 c κs = search needs
-
 returns-6 : tie.Need-returns-6
 unfolding firstFailing
 returns-6 c = rw (le-leb _ _ (c .before .before .before .before .before .before .before .before .before .before .if1 .left), sym (c .before .before .before .before .before .before .before .before .before .mode-ok .ensures) ∙ not-false _ (c .before .before .before .before .before .before .before .before .if2 .left), sym (c .before .before .before .before .before .before .before .register-ok .ensures) ∙ not-false _ (c .before .before .before .before .before .before .if3 .left), sym (c .before .before .before .before .before .kind-ok .ensures) ∙ not-false _ (c .before .before .before .before .if4 .left), sym (c .before .before .before .number-ok .ensures) ∙ not-false _ (c .before .before .if5 .left), sym (c .before .kind-ok2 .ensures) ∙ not-true _ (c .if6 .taken))
-
-number-ok-requires-2 : tie.Need-number-ok-requires-2
-number-ok-requires-2 c κs = search needs
 
 returns-7 : tie.Need-returns-7
 unfolding firstFailing
@@ -62,16 +44,16 @@ instruction-fault-spec =
     tie.close
     (tie.spec
     returns
-    mode-ok-requires
+    (λ c κs. search needs)
     returns-2
-    register-ok-requires
+    (λ c κs. search needs)
     returns-3
-    kind-ok-requires
+    (λ c κs. search needs)
     returns-4
-    number-ok-requires
+    (λ c κs. search needs)
     returns-5
-    kind-ok-requires-2
+    (λ c κs. search needs)
     returns-6
-    number-ok-requires-2
+    (λ c κs. search needs)
     returns-7
     returns-8)

@@ -10,18 +10,9 @@ use Rattle.program.specs.WellFormed.{modeTest}
 use Rattle.file_range.proofs.mode_ok.Statement.{statement}
 use Rattle.file_range.proofs.mode_ok.Tie as tie
 
-mode-limit-requires : tie.Need-mode-limit-requires
-mode-limit-requires c κs = search needs
-
 returns : tie.Need-returns
 unfolding modeTest
 returns c = rw (← c .before .mode-limit .ensures, lt-leb _ _ (c .if1 .taken))
-
-add-result : tie.Need-add-result
-add-result c = search needs
-
-add-result-2 : tie.Need-add-result-2
-add-result-2 c = search needs
 
 returns-2 : tie.Need-returns-2
 unfolding modeTest
@@ -36,4 +27,4 @@ returns-3 c = rw (← c .before .before .mode-limit .ensures, le-leb _ _ (c .bef
 
 pub mode-ok-spec : {M : Type 1} → statement M
 mode-ok-spec =
-    tie.close (tie.spec mode-limit-requires returns add-result add-result-2 returns-2 returns-3)
+    tie.close (tie.spec (λ c κs. search needs) returns (λ c. search needs) (λ c. search needs) returns-2 returns-3)

@@ -5,17 +5,8 @@ use Rattle.file_cursor.proofs.Cursors.{header-sound, body-sound, whole}
 use Rattle.file_reader.proofs.read.Statement.{statement}
 use Rattle.file_reader.proofs.read.Tie as tie
 
-read-header-requires : tie.Need-read-header-requires
-read-header-requires c κs = search needs
-
-read-body-requires : tie.Need-read-body-requires
-read-body-requires c κs = header-sound _ _ (c .read-header .ensures)
-
 read-question-requires : tie.Need-read-question-requires
 read-question-requires c κs = body-sound _ _ (c .before .read-header .ensures) _ (c .read-body .ensures)
-
-read-end-requires : tie.Need-read-end-requires
-read-end-requires c κs = search needs
 
 returns : tie.Need-returns
 returns c = whole _ _ (c .before .before .before .read-header .ensures) _ (c .before .before .read-body .ensures) _ (c .before .read-question .ensures) _ (c .read-end .ensures)
@@ -24,8 +15,8 @@ pub read-spec : {M : Type 1} → statement M
 read-spec =
     tie.close
     (tie.spec
-    read-header-requires
-    read-body-requires
+    (λ c κs. search needs)
+    (λ c κs. header-sound _ _ (c .read-header .ensures))
     read-question-requires
-    read-end-requires
+    (λ c κs. search needs)
     returns)

@@ -6,17 +6,8 @@ use Rattle.file_cursor.proofs.Cursors.{as-read, stays, going-in, body-stays, bo
 use Rattle.file_reader.proofs.read_body.Statement.{statement}
 use Rattle.file_reader.proofs.read_body.Tie as tie
 
-enum-known-g : tie.Need-enum-known-g
-enum-known-g c = search needs
-
-enum-told : tie.Need-enum-told
-enum-told c = search needs
-
 returns : tie.Need-returns
 returns c = stays _ _ _ _ (c .before .before .before .pre) (c .enum-told .given .1) (readBody _) (body-stays _ _ _)
-
-cast-read-threads : tie.Need-cast-read-threads
-cast-read-threads c = search needs
 
 read-threads-requires : tie.Need-read-threads-requires
 read-threads-requires c κs =
@@ -29,4 +20,4 @@ returns-2 c = as-read (c .read-threads .ensures) (body-on _ _ _ _ (c .before .be
 pub read-body-spec : {M : Type 1} → statement M
 read-body-spec =
     tie.close
-    (tie.spec enum-known-g enum-told returns cast-read-threads read-threads-requires returns-2)
+    (tie.spec (λ c. search needs) (λ c. search needs) returns (λ c. search needs) read-threads-requires returns-2)

@@ -7,18 +7,6 @@ use Rattle.file_cursor.proofs.Cursors.{end-stopped, end-good, end-9}
 use Rattle.file_reader.proofs.read_end.Statement.{statement}
 use Rattle.file_reader.proofs.read_end.Tie as tie
 
-enum-known-g : tie.Need-enum-known-g
-enum-known-g c = search needs
-
-refuse-requires : tie.Need-refuse-requires
-refuse-requires c κs = search needs
-
-enum-known-g-2 : tie.Need-enum-known-g-2
-enum-known-g-2 c = search needs
-
-refuse-requires-2 : tie.Need-refuse-requires-2
-refuse-requires-2 c κs = search needs
-
 returns : tie.Need-returns
 returns c = c .refuse .ensures ∙ ap fileRead (sym (end-stopped _ _ _ _ (c .before .before .g .given .1)))
 
@@ -32,10 +20,10 @@ pub read-end-spec : {M : Type 1} → statement M
 read-end-spec =
     tie.close
     (tie.spec
-    enum-known-g
-    refuse-requires
-    enum-known-g-2
-    refuse-requires-2
+    (λ c. search needs)
+    (λ c κs. search needs)
+    (λ c. search needs)
+    (λ c κs. search needs)
     returns
     returns-2
     returns-3)

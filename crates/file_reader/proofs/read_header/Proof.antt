@@ -7,20 +7,11 @@ use Rattle.program.proofs.Reading.{fault-fits, header-fault, header-3, header-n
 use Rattle.file_reader.proofs.read_header.Statement.{statement}
 use Rattle.file_reader.proofs.read_header.Tie as tie
 
-fault-requires : tie.Need-fault-requires
-fault-requires c κs = search needs
-
-stop-requires : tie.Need-stop-requires
-stop-requires c κs = search needs
-
 returns : tie.Need-returns
 returns c = as-read (c .stop .ensures) (header-fault _ _ (c .before .before .fault .ensures) (c .before .if1 .taken))
 
 shared-slice-read-v : tie.Need-shared-slice-read-v
 shared-slice-read-v c = omega (arith, fault-fits _ _ _ _ _ _ (c .before .before .fault .ensures) (c .before .if1 .left))
-
-stop-requires-2 : tie.Need-stop-requires-2
-stop-requires-2 c κs = search needs
 
 returns-2 : tie.Need-returns-2
 returns-2 c = as-read (c .stop2 .ensures) (header-3 _ _ (c .before .before .before .before .fault .ensures) (c .before .before .before .if1 .left) (c .before .if2 .taken))
@@ -28,23 +19,11 @@ returns-2 c = as-read (c .stop2 .ensures) (header-3 _ _ (c .before .before .befo
 shared-slice-read-n : tie.Need-shared-slice-read-n
 shared-slice-read-n c = omega (arith, fault-fits _ _ _ _ _ _ (c .before .before .before .before .fault .ensures) (c .before .before .before .if1 .left))
 
-stop-requires-3 : tie.Need-stop-requires-3
-stop-requires-3 c κs = search needs
-
 returns-3 : tie.Need-returns-3
 returns-3 c = as-read (c .stop3 .ensures) (header-none _ _ (c .before .before .before .before .before .before .fault .ensures) (c .before .before .before .before .before .if1 .left) (c .before .before .before .if2 .left) (c .before .if3 .taken))
 
-stop-requires-4 : tie.Need-stop-requires-4
-stop-requires-4 c κs = search needs
-
 returns-4 : tie.Need-returns-4
 returns-4 c = as-read (c .stop4 .ensures) (header-many _ _ (c .before .before .before .before .before .before .before .fault .ensures) (c .before .before .before .before .before .before .if1 .left) (c .before .before .before .before .if2 .left) (c .before .before .if3 .left) (c .before .if4 .taken))
-
-with-header-requires : tie.Need-with-header-requires
-with-header-requires c κs = search needs
-
-go-on-requires : tie.Need-go-on-requires
-go-on-requires c κs = search needs
 
 returns-5 : tie.Need-returns-5
 returns-5 c = as-read (c .go-on .ensures) (header-on _ _ (c .before .before .before .before .before .before .before .before .fault .ensures) (c .before .before .before .before .before .before .before .if1 .left) (c .before .before .before .before .before .if2 .left) (c .before .before .before .if3 .left) (c .before .before .if4 .left) _ (c .before .with-header .ensures))
@@ -53,17 +32,17 @@ pub read-header-spec : {M : Type 1} → statement M
 read-header-spec =
     tie.close
     (tie.spec
-    fault-requires
-    stop-requires
+    (λ c κs. search needs)
+    (λ c κs. search needs)
     returns
     shared-slice-read-v
-    stop-requires-2
+    (λ c κs. search needs)
     returns-2
     shared-slice-read-n
-    stop-requires-3
+    (λ c κs. search needs)
     returns-3
-    stop-requires-4
+    (λ c κs. search needs)
     returns-4
-    with-header-requires
-    go-on-requires
+    (λ c κs. search needs)
+    (λ c κs. search needs)
     returns-5)

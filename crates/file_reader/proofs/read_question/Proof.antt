@@ -10,20 +10,11 @@ use Rattle.program.proofs.Reading.{fault-fits, question-fault, question-8, ques
 use Rattle.file_reader.proofs.read_question.Statement.{statement}
 use Rattle.file_reader.proofs.read_question.Tie as tie
 
-enum-known-g : tie.Need-enum-known-g
-enum-known-g c = search needs
-
-enum-told : tie.Need-enum-told
-enum-told c = search needs
-
 returns : tie.Need-returns
 returns c = stays _ _ _ _ (c .before .before .before .pre) (c .enum-told .given .1) (readQuestion _) (question-stays _ _ _)
 
 fault-requires : tie.Need-fault-requires
 fault-requires c κs = let w = going-in _ _ _ _ (c .before .before .before .before .pre) (c .before .g .given .1) in omega arith
-
-stop-requires : tie.Need-stop-requires
-stop-requires c κs = search needs
 
 returns-2 : tie.Need-returns-2
 returns-2 c = as-read (c .stop .ensures) (ap (readQuestion _) (going-is _ _ _ (c .before .before .before .before .g .given .1)) ∙ question-fault _ _ _ _ _ (c .before .before .fault .ensures) (c .before .if1 .taken))
@@ -37,20 +28,11 @@ shared-slice-read-n c = omega (arith, going-in _ _ _ _ (c .before .before .befor
 add-stop : tie.Need-add-stop
 add-stop c = omega (arith, going-in _ _ _ _ (c .before .before .before .before .before .before .before .before .pre) (c .before .before .before .before .before .g .given .1), fault-fits _ _ _ _ _ _ (c .before .before .before .fault .ensures) (c .before .before .if1 .left))
 
-stop-requires-2 : tie.Need-stop-requires-2
-stop-requires-2 c κs = search needs
-
 returns-3 : tie.Need-returns-3
 returns-3 c = as-read (c .stop2 .ensures) (ap (readQuestion _) (going-is _ _ _ (c .before .before .before .before .before .before .g .given .1)) ∙ question-8 _ _ _ _ _ (c .before .before .before .before .fault .ensures) (c .before .before .before .if1 .left) (c .before .if2 .taken))
 
-cast-read-conditions : tie.Need-cast-read-conditions
-cast-read-conditions c = search needs
-
 add-read-conditions : tie.Need-add-read-conditions
 add-read-conditions c = omega (arith, going-in _ _ _ _ (c .before .before .before .before .before .before .before .before .pre) (c .before .before .before .before .before .g .given .1), fault-fits _ _ _ _ _ _ (c .before .before .before .fault .ensures) (c .before .before .if1 .left))
-
-with-conditions-requires : tie.Need-with-conditions-requires
-with-conditions-requires c κs = search needs
 
 read-conditions-requires : tie.Need-read-conditions-requires
 read-conditions-requires c κs =
@@ -66,19 +48,19 @@ pub read-question-spec : {M : Type 1} → statement M
 read-question-spec =
     tie.close
     (tie.spec
-    enum-known-g
-    enum-told
+    (λ c. search needs)
+    (λ c. search needs)
     returns
     fault-requires
-    stop-requires
+    (λ c κs. search needs)
     returns-2
     add-n
     shared-slice-read-n
     add-stop
-    stop-requires-2
+    (λ c κs. search needs)
     returns-3
-    cast-read-conditions
+    (λ c. search needs)
     add-read-conditions
-    with-conditions-requires
+    (λ c κs. search needs)
     read-conditions-requires
     returns-4)

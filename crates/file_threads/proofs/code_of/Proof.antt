@@ -9,12 +9,6 @@ use Rattle.program.proofs.Arrays.{length-mapped, getD-any}
 use Rattle.file_threads.proofs.code_of.Statement.{statement}
 use Rattle.file_threads.proofs.code_of.Tie as tie
 
-mul-result : tie.Need-mul-result
-mul-result c = search needs
-
-element-copy-out-result : tie.Need-element-copy-out-result
-element-copy-out-result c = search needs
-
 returns : tie.Need-returns
 unfolding codeOf
 returns c =
@@ -23,4 +17,4 @@ returns c =
     getD-any _ _ (a .t1 .codes) (a .i) (omega arith)
 
 pub code-of-spec : {M : Type 1} → statement M
-code-of-spec = tie.close (tie.spec mul-result element-copy-out-result returns)
+code-of-spec = tie.close (tie.spec (λ c. search needs) (λ c. search needs) returns)

@@ -10,17 +10,8 @@ use Rattle.program.proofs.Reading.{fault-fits, thread-fault, thread-10, thread-
 use Rattle.file_threads.proofs.read_thread.Statement.{statement}
 use Rattle.file_threads.proofs.read_thread.Tie as tie
 
-fault-requires : tie.Need-fault-requires
-fault-requires c κs = search needs
-
-stop-requires : tie.Need-stop-requires
-stop-requires c κs = search needs
-
 returns : tie.Need-returns
 returns c = as-read (c .stop .ensures) (thread-fault _ _ _ _ _ _ (c .before .before .fault .ensures) (c .before .if1 .taken))
-
-add-number : tie.Need-add-number
-add-number c = search needs
 
 shared-slice-read-number : tie.Need-shared-slice-read-number
 shared-slice-read-number c = omega (arith, fault-fits _ _ _ _ _ _ (c .before .before .fault .ensures) (c .before .if1 .left))
@@ -28,38 +19,14 @@ shared-slice-read-number c = omega (arith, fault-fits _ _ _ _ _ _ (c .before .be
 cast-number : tie.Need-cast-number
 cast-number c = omega (arith, c .shared-slice-known2 .given (c .before .before .before .before .args .at + 2))
 
-add-n : tie.Need-add-n
-add-n c = search needs
-
 shared-slice-read-n : tie.Need-shared-slice-read-n
 shared-slice-read-n c = omega (arith, fault-fits _ _ _ _ _ _ (c .before .before .before .fault .ensures) (c .before .before .if1 .left))
-
-add-stop : tie.Need-add-stop
-add-stop c = search needs
-
-stop-requires-2 : tie.Need-stop-requires-2
-stop-requires-2 c κs = search needs
 
 returns-2 : tie.Need-returns-2
 returns-2 c = as-read (c .stop2 .ensures) (thread-10 _ _ _ _ _ _ (c .before .before .before .before .before .fault .ensures) (c .before .before .before .before .if1 .left) (c .before .if2 .taken))
 
-add-stop-2 : tie.Need-add-stop-2
-add-stop-2 c = search needs
-
-stop-requires-3 : tie.Need-stop-requires-3
-stop-requires-3 c κs = search needs
-
 returns-3 : tie.Need-returns-3
 returns-3 c = as-read (c .stop3 .ensures) (thread-5 _ _ _ _ _ _ (c .before .before .before .before .before .before .fault .ensures) (c .before .before .before .before .before .if1 .left) (c .before .before .if2 .left) (c .before .if3 .taken))
-
-cast-read-instructions : tie.Need-cast-read-instructions
-cast-read-instructions c = search needs
-
-add-read-instructions : tie.Need-add-read-instructions
-add-read-instructions c = search needs
-
-with-count-requires : tie.Need-with-count-requires
-with-count-requires c κs = search needs
 
 read-instructions-requires : tie.Need-read-instructions-requires
 read-instructions-requires c κs =
@@ -75,22 +42,22 @@ pub read-thread-spec : {M : Type 1} → statement M
 read-thread-spec =
     tie.close
     (tie.spec
-    fault-requires
-    stop-requires
+    (λ c κs. search needs)
+    (λ c κs. search needs)
     returns
-    add-number
+    (λ c. search needs)
     shared-slice-read-number
     cast-number
-    add-n
+    (λ c. search needs)
     shared-slice-read-n
-    add-stop
-    stop-requires-2
+    (λ c. search needs)
+    (λ c κs. search needs)
     returns-2
-    add-stop-2
-    stop-requires-3
+    (λ c. search needs)
+    (λ c κs. search needs)
     returns-3
-    cast-read-instructions
-    add-read-instructions
-    with-count-requires
+    (λ c. search needs)
+    (λ c. search needs)
+    (λ c κs. search needs)
     read-instructions-requires
     returns-4)

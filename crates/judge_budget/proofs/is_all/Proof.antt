@@ -6,11 +6,5 @@ use Rattle.judge_budget.proofs.Reading.{is-all, not-all}
 use Rattle.judge_budget.proofs.is_all.Statement.{statement}
 use Rattle.judge_budget.proofs.is_all.Tie as tie
 
-returns : tie.Need-returns
-returns c = not-all _ (c .if1 .taken)
-
-returns-2 : tie.Need-returns-2
-returns-2 c = is-all _ (c .before .before .before .if1 .left) _ refl
-
 pub is-all-spec : {M : Type 1} → statement M
-is-all-spec = tie.close (tie.spec returns (λ c. search needs) (λ c. search needs) (λ c. search needs) returns-2)
+is-all-spec = tie.close (tie.spec (λ c. not-all _ (c .if1 .taken)) (λ c. search needs) (λ c. search needs) (λ c. search needs) (λ c. is-all _ (c .before .before .before .if1 .left) _ refl))

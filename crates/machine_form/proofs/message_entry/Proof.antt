@@ -4,11 +4,5 @@ use borrow.Author.Needs.{needs}
 use Rattle.machine_form.proofs.message_entry.Statement.{statement}
 use Rattle.machine_form.proofs.message_entry.Tie as tie
 
-returns : tie.Need-returns
-returns c = rw (c .message-test .ensures, c .before .if1 .taken)
-
-returns-2 : tie.Need-returns-2
-returns-2 c = rw (c .unused-message .ensures, c .before .if1 .left)
-
 pub message-entry-spec : {M : Type 1} → statement M
-message-entry-spec = tie.close (tie.spec (λ c κs. search needs) (λ c κs. search needs) returns returns-2)
+message-entry-spec = tie.close (tie.spec (λ c κs. search needs) (λ c κs. search needs) (λ c. rw (c .message-test .ensures, c .before .if1 .taken)) (λ c. rw (c .unused-message .ensures, c .before .if1 .left)))

@@ -5,8 +5,5 @@ use Rattle.machine_form.proofs.Loops.{has-place}
 use Rattle.machine_form.proofs.own_entry.Statement.{statement}
 use Rattle.machine_form.proofs.own_entry.Tie as tie
 
-returns : tie.Need-returns
-returns c = rw has-place
-
 pub own-entry-spec : {M : Type 1} → statement M
-own-entry-spec = tie.close (tie.spec (λ c. search needs) returns)
+own-entry-spec = tie.close (tie.spec (λ c. search needs) (λ c. rw has-place))

@@ -5,8 +5,5 @@ use Rattle.machine_form.proofs.Loops.{shl-one}
 use Rattle.machine_form.proofs.promises_test.Statement.{statement}
 use Rattle.machine_form.proofs.promises_test.Tie as tie
 
-returns : tie.Need-returns
-returns c = rw (shl-one _ (c .pre))
-
 pub promises-test-spec : {M : Type 1} → statement M
-promises-test-spec = tie.close (tie.spec (λ c. search needs) returns)
+promises-test-spec = tie.close (tie.spec (λ c. search needs) (λ c. rw (shl-one _ (c .pre))))

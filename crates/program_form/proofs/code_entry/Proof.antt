@@ -5,8 +5,5 @@ use Rattle.program.proofs.Loops.{or-cond}
 use Rattle.program_form.proofs.code_entry.Statement.{statement}
 use Rattle.program_form.proofs.code_entry.Tie as tie
 
-returns : tie.Need-returns
-returns c = rw (c .before .code-test .ensures, or-cond)
-
 pub code-entry-spec : {M : Type 1} → statement M
-code-entry-spec = tie.close (tie.spec (λ c κs. search needs) returns)
+code-entry-spec = tie.close (tie.spec (λ c κs. search needs) (λ c. rw (c .before .code-test .ensures, or-cond)))

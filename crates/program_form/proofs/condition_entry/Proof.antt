@@ -4,11 +4,5 @@ use borrow.Author.Needs.{needs}
 use Rattle.program_form.proofs.condition_entry.Statement.{statement}
 use Rattle.program_form.proofs.condition_entry.Tie as tie
 
-returns : tie.Need-returns
-returns c = rw (c .condition-test .ensures, c .before .if1 .taken)
-
-returns-2 : tie.Need-returns-2
-returns-2 c = rw (c .unused-condition .ensures, c .before .if1 .left)
-
 pub condition-entry-spec : {M : Type 1} → statement M
-condition-entry-spec = tie.close (tie.spec (λ c κs. search needs) (λ c κs. search needs) returns returns-2)
+condition-entry-spec = tie.close (tie.spec (λ c κs. search needs) (λ c κs. search needs) (λ c. rw (c .condition-test .ensures, c .before .if1 .taken)) (λ c. rw (c .unused-condition .ensures, c .before .if1 .left)))

@@ -8,23 +8,11 @@ use borrow.Author.Needs.{needs}
 use Rattle.rules_times.proofs.after.Statement.{statement}
 use Rattle.rules_times.proofs.after.Tie as tie
 
-returns : tie.Need-returns
-returns c = rw (c .if1 .taken) (after-last _)
-
-shr-rest : tie.Need-shr-rest
-shr-rest c = search needs
-
-is-empty-requires : tie.Need-is-empty-requires
-is-empty-requires c κs = search needs
-
 returns-2 : tie.Need-returns-2
 returns-2 c = after-none _ _ (let h = c .before .before .before .pre in omega (arith, c .before .before .if1 .left)) _ refl (eqb-true _ _ (sym (c .before .is-empty .ensures) ∙ c .if2 .taken))
 
 first-requires : tie.Need-first-requires
 first-requires c κs = eqb-false _ _ (sym (c .before .is-empty .ensures) ∙ c .if2 .left)
-
-add-result : tie.Need-add-result
-add-result c = search needs
 
 returns-3 : tie.Need-returns-3
 returns-3 c = after-first _ _ (c .before .before .before .before .fits .p .fits) _ _ refl (c .first .ensures)
@@ -32,4 +20,4 @@ returns-3 c = after-first _ _ (c .before .before .before .before .fits .p .fits)
 pub after-spec : {M : Type 1} → statement M
 after-spec =
     tie.close
-    (tie.spec returns shr-rest is-empty-requires returns-2 first-requires add-result returns-3)
+    (tie.spec (λ c. rw (c .if1 .taken) (after-last _)) (λ c. search needs) (λ c κs. search needs) returns-2 first-requires (λ c. search needs) returns-3)

@@ -6,14 +6,8 @@ use borrow.Author.Needs.{needs}
 use Rattle.search_promises.proofs.reached_after.Statement.{statement}
 use Rattle.search_promises.proofs.reached_after.Tie as tie
 
-append-requires : tie.Need-append-requires
-append-requires c κs = search needs
-
 with-requires : tie.Need-with-requires
 with-requires c κs = rw (c .append .ensures) (with-room _ _ _ (c .before .pre .0) (c .before .pre .1))
-
-with-promises-requires : tie.Need-with-promises-requires
-with-promises-requires c κs = search needs
 
 two-reached-requires : tie.Need-two-reached-requires
 two-reached-requires c κs = rw (c .with-promises .ensures, c .before .with .ensures, c .before .before .append .ensures) (ready-promised _ _ _ (c .before .before .before .pre .0) (c .before .before .before .pre .1) hole)
@@ -24,4 +18,4 @@ returns c = rw (c .before .with-promises .ensures, c .before .before .with .ensu
 pub reached-after-spec : {M : Type 1} → statement M
 reached-after-spec =
     tie.close
-    (tie.spec append-requires with-requires with-promises-requires two-reached-requires returns)
+    (tie.spec (λ c κs. search needs) with-requires (λ c κs. search needs) two-reached-requires returns)

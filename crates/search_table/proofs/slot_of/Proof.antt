@@ -5,8 +5,5 @@ use borrow.Author.Needs.{needs}
 use Rattle.search_table.proofs.slot_of.Statement.{statement}
 use Rattle.search_table.proofs.slot_of.Tie as tie
 
-returns : tie.Need-returns
-returns c = mod-lt _ (c .before .pre)
-
 pub slot-of-spec : {M : Type 1} → statement M
-slot-of-spec = tie.close (tie.spec (λ c κs. search needs) (λ c. search needs) returns)
+slot-of-spec = tie.close (tie.spec (λ c κs. search needs) (λ c. search needs) (λ c. mod-lt _ (c .before .pre)))

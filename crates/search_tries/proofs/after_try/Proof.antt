@@ -14,8 +14,5 @@ add-next-try c = let l = c .before .before .before .pre .1 .1 .1 in omega arith
 next-try-requires : tie.Need-next-try-requires
 next-try-requires c κs = (c .before .before .before .pre .0, c .before .before .before .pre .1 .0)
 
-returns-2 : tie.Need-returns-2
-returns-2 c = c .next-try .ensures
-
 pub after-try-spec : {M : Type 1} → statement M
-after-try-spec = tie.close (tie.spec returns add-next-try next-try-requires returns-2)
+after-try-spec = tie.close (tie.spec returns add-next-try next-try-requires (λ c. c .next-try .ensures))

@@ -11,18 +11,12 @@ use Rattle.search_tries.proofs.execute_at.Tie as tie
 execute-requires : tie.Need-execute-requires
 execute-requires c κs = (reach-small _ _ _ (c .pre .0) _ _ (c .pre .1), c .pre .0 .room)
 
-enum-told : tie.Need-enum-told
-enum-told c = search needs
-
 settled-requires : tie.Need-settled-requires
 settled-requires c κs =
     let o = c .before .before .before .pre in
     let e = c .before .before .execute .ensures in
     let d = c .enum-told .given .1 in
     (ready-executed _ _ _ (o .0) _ _ _ e d, o .1, ruled-done _ _ _ e d, o .2)
-
-enum-known-answer : tie.Need-enum-known-answer
-enum-known-answer c = search needs
 
 returns : tie.Need-returns
 returns c = (execute-done _ _ _ _ _ (answerOnly (c .settled .result)) _ (c .before .before .before .before .pre .1) _ (c .before .before .before .execute .ensures) (c .before .enum-told .given .1) (c .settled .ensures .0), c .settled .ensures .1)
@@ -33,4 +27,4 @@ returns-2 c = (execute-refused _ _ _ _ _ _ _ (c .before .before .before .before 
 pub execute-at-spec : {M : Type 1} → statement M
 execute-at-spec =
     tie.close
-    (tie.spec execute-requires enum-told settled-requires enum-known-answer returns returns-2)
+    (tie.spec execute-requires (λ c. search needs) settled-requires (λ c. search needs) returns returns-2)

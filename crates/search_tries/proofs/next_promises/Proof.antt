@@ -10,12 +10,6 @@ use Rattle.search_tries.proofs.next_promises.Tie as tie
 returns : tie.Need-returns
 returns c = none-promised _ _ _ _ (c .before .before .pre .1) _ (was-false refl (c .if1 .taken))
 
-returns-2 : tie.Need-returns-2
-returns-2 c = next-full _ _ _ _ (c .if2 .taken)
-
-next-reached-requires : tie.Need-next-reached-requires
-next-reached-requires c κs = (c .before .before .before .before .pre .0, c .if2 .left)
-
 add-next : tie.Need-add-next
 add-next c = let h = c .before .next-reached .ensures .within in omega arith
 
@@ -29,4 +23,4 @@ returns-4 : tie.Need-returns-4
 returns-4 c = two-explored _ _ _ _ _ (c .before .before .before .before .next-reached .ensures) (c .before .before .before .before .before .if2 .left) (c .before .if3 .left)
 
 pub next-promises-spec : {M : Type 1} → statement M
-next-promises-spec = tie.close (tie.spec returns returns-2 next-reached-requires add-next returns-3 add-then returns-4)
+next-promises-spec = tie.close (tie.spec returns (λ c. next-full _ _ _ _ (c .if2 .taken)) (λ c κs. (c .before .before .before .before .pre .0, c .if2 .left)) add-next returns-3 add-then returns-4)

@@ -6,26 +6,11 @@ use borrow.Author.Needs.{needs}
 use Rattle.search_tries.proofs.next_try.Statement.{statement}
 use Rattle.search_tries.proofs.next_try.Tie as tie
 
-next-promises-requires : tie.Need-next-promises-requires
-next-promises-requires c κs = search needs
-
 returns : tie.Need-returns
 returns c = past-times _ _ _ _ _ (c .before .if1 .taken) (c .next-promises .ensures)
 
-cast-next-time : tie.Need-cast-next-time
-cast-next-time c = search needs
-
-next-time-requires : tie.Need-next-time-requires
-next-time-requires c κs = search needs
-
-cast-next : tie.Need-cast-t10
-cast-next c = search needs
-
 returns-2 : tie.Need-returns-2
 returns-2 c = at-a-time _ _ _ _ (c .before .before .before .pre .1) _ _ (omega (arith, c .before .before .if1 .left)) (c .before .next-time .ensures) (c .if2 .taken)
-
-next-promises-requires-2 : tie.Need-next-promises-requires-2
-next-promises-requires-2 c κs = search needs
 
 returns-3 : tie.Need-returns-3
 returns-3 c = after-times _ _ _ _ (c .before .before .before .before .pre .1) _ _ (omega (arith, c .before .before .before .if1 .left)) (c .before .before .next-time .ensures) (c .before .if2 .left) _ (c .next-promises2 .ensures)
@@ -34,11 +19,11 @@ pub next-try-spec : {M : Type 1} → statement M
 next-try-spec =
     tie.close
     (tie.spec
-    next-promises-requires
+    (λ c κs. search needs)
     returns
-    cast-next-time
-    next-time-requires
-    cast-next
+    (λ c. search needs)
+    (λ c κs. search needs)
+    (λ c. search needs)
     returns-2
-    next-promises-requires-2
+    (λ c κs. search needs)
     returns-3)

@@ -9,23 +9,8 @@ use Rattle.search_tries.proofs.Beaten.{took-settles, found-settles, los
 use Rattle.search_tries.proofs.settled.Statement.{statement}
 use Rattle.search_tries.proofs.settled.Tie as tie
 
-is-empty-requires : tie.Need-is-empty-requires
-is-empty-requires c κs = search needs
-
-took-requires : tie.Need-took-requires
-took-requires c κs = search needs
-
 returns : tie.Need-returns
 returns c = took-settles _ _ _ _ _ _ _ (c .took .ensures) (settle-free _ _ _ _ _ (c .before .before .is-empty .ensures) (c .before .if1 .taken) _ refl) (c .before .before .before .pre .3)
-
-certified-requires : tie.Need-certified-requires
-certified-requires c κs = search needs
-
-search-runs-requires : tie.Need-search-runs-requires
-search-runs-requires c κs = search needs
-
-took-requires-2 : tie.Need-took-requires-2
-took-requires-2 c κs = search needs
 
 returns-2 : tie.Need-returns-2
 returns-2 c = took-settles _ _ _ _ _ _ _ (c .took2 .ensures) (found-settles _ _ _ _ _ (rw (c .before .before .before .before .certified .ensures) at (c .before .before .before .search-runs .ensures)) (c .before .if2 .taken)) (c .before .before .before .before .before .before .before .pre .3)
@@ -42,12 +27,12 @@ pub settled-spec : {M : Type 1} → statement M
 settled-spec =
     tie.close
     (tie.spec
-    is-empty-requires
-    took-requires
+    (λ c κs. search needs)
+    (λ c κs. search needs)
     returns
-    certified-requires
-    search-runs-requires
-    took-requires-2
+    (λ c κs. search needs)
+    (λ c κs. search needs)
+    (λ c κs. search needs)
     returns-2
     narrowed-requires
     returns-3)

@@ -15,42 +15,6 @@ use borrow.Author.Needs.{needs}
 use Rattle.step_ending.proofs.complete.Statement.{statement}
 use Rattle.step_ending.proofs.complete.Tie as tie
 
-element-copy-out-thread-done : tie.Need-element-copy-out-thread-done
-element-copy-out-thread-done c = search needs
-
-element-copy-out-thread-done-2 : tie.Need-element-copy-out-thread-done-2
-element-copy-out-thread-done-2 c = search needs
-
-thread-done-requires : tie.Need-thread-done-requires
-thread-done-requires c κs = search needs
-
-element-copy-out-thread-done-3 : tie.Need-element-copy-out-thread-done-3
-element-copy-out-thread-done-3 c = search needs
-
-element-copy-out-thread-done-4 : tie.Need-element-copy-out-thread-done-4
-element-copy-out-thread-done-4 c = search needs
-
-thread-done-requires-2 : tie.Need-thread-done-requires-2
-thread-done-requires-2 c κs = search needs
-
-element-copy-out-thread-done-5 : tie.Need-element-copy-out-thread-done-5
-element-copy-out-thread-done-5 c = search needs
-
-element-copy-out-thread-done-6 : tie.Need-element-copy-out-thread-done-6
-element-copy-out-thread-done-6 c = search needs
-
-thread-done-requires-3 : tie.Need-thread-done-requires-3
-thread-done-requires-3 c κs = search needs
-
-element-copy-out-thread-done-7 : tie.Need-element-copy-out-thread-done-7
-element-copy-out-thread-done-7 c = search needs
-
-element-copy-out-thread-done-8 : tie.Need-element-copy-out-thread-done-8
-element-copy-out-thread-done-8 c = search needs
-
-thread-done-requires-4 : tie.Need-thread-done-requires-4
-thread-done-requires-4 c κs = search needs
-
 returns : tie.Need-returns
 unfolding complete codeOf
 returns c =
@@ -69,16 +33,16 @@ pub complete-spec : {M : Type 1} → statement M
 complete-spec =
     tie.close
     (tie.spec
-    element-copy-out-thread-done
-    element-copy-out-thread-done-2
-    thread-done-requires
-    element-copy-out-thread-done-3
-    element-copy-out-thread-done-4
-    thread-done-requires-2
-    element-copy-out-thread-done-5
-    element-copy-out-thread-done-6
-    thread-done-requires-3
-    element-copy-out-thread-done-7
-    element-copy-out-thread-done-8
-    thread-done-requires-4
+    (λ c. search needs)
+    (λ c. search needs)
+    (λ c κs. search needs)
+    (λ c. search needs)
+    (λ c. search needs)
+    (λ c κs. search needs)
+    (λ c. search needs)
+    (λ c. search needs)
+    (λ c κs. search needs)
+    (λ c. search needs)
+    (λ c. search needs)
+    (λ c κs. search needs)
     returns)

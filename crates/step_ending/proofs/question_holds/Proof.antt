@@ -5,12 +5,9 @@ use Rattle.step_ending.proofs.Asking.{askable}
 use Rattle.step_ending.proofs.question_holds.Statement.{statement}
 use Rattle.step_ending.proofs.question_holds.Tie as tie
 
-all-hold-requires : tie.Need-all-hold-requires
-all-hold-requires c κs = askable _ _ (c .before .pre)
-
 returns : tie.Need-returns
 unfolding questionHolds
 returns c = c .all-hold .ensures
 
 pub question-holds-spec : {M : Type 1} → statement M
-question-holds-spec = tie.close (tie.spec all-hold-requires returns)
+question-holds-spec = tie.close (tie.spec (λ c κs. askable _ _ (c .before .pre)) returns)

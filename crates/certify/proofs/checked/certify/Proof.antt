@@ -7,9 +7,6 @@ use Rattle.certify.proofs.Asked.{certify-20, certify-21, certify-yes, c
 use Rattle.certify.proofs.checked.certify.Statement.{statement}
 use Rattle.certify.proofs.checked.certify.Tie as tie
 
-both-formed-requires : tie.Need-both-formed-requires
-both-formed-requires c κs = search needs
-
 returns : tie.Need-returns
 returns c = certify-20 _ _ _ _ (c .before .both-formed .ensures) (not-true _ (c .if1 .taken))
 
@@ -47,7 +44,7 @@ pub certify-spec : {M : Type 1} → statement M
 certify-spec =
     tie.close
     (tie.spec
-    both-formed-requires
+    (λ c κs. search needs)
     returns
     returns-2
     code-of-requires

@@ -5,17 +5,8 @@ use Rattle.certify_cares.proofs.Agreeing.{forgotten}
 use Rattle.certify_cares.proofs.Cares.forgetting.Statement.{statement}
 use Rattle.certify_cares.proofs.Cares.forgetting.Tie as tie
 
-returns : tie.Need-returns
-returns c = search needs
-
-mul-of : tie.Need-mul-of
-mul-of c = search needs
-
-array-write-of : tie.Need-array-write-of
-array-write-of c = search needs
-
 returns-2 : tie.Need-returns-2
 returns-2 c = forgotten (c .before .before .args .self .of) (c .before .before .args .r) 0
 
 pub forgetting-spec : {M : Type 1} → statement M
-forgetting-spec = tie.close (tie.spec returns mul-of array-write-of returns-2)
+forgetting-spec = tie.close (tie.spec (λ c. search needs) (λ c. search needs) (λ c. search needs) returns-2)

@@ -14,12 +14,6 @@ returns c =
     let l = c .if1 .taken in
     sym (List·getD-eq-default (c .before .args .t1 .of) 2 {n = c .before .args .r} (omega arith))
 
-mul-result : tie.Need-mul-result
-mul-result c = search needs
-
-element-copy-out-result : tie.Need-element-copy-out-result
-element-copy-out-result c = search needs
-
 returns-2 : tie.Need-returns-2
 returns-2 c =
     let h : length (c .before .before .args .t1 .of) ≡ 8 = search length-mapped depth 7 in
@@ -27,4 +21,4 @@ returns-2 c =
     getD-any 0 2 (c .before .before .args .t1 .of) (c .before .before .args .r) (omega arith)
 
 pub of-register-spec : {M : Type 1} → statement M
-of-register-spec = tie.close (tie.spec returns mul-result element-copy-out-result returns-2)
+of-register-spec = tie.close (tie.spec returns (λ c. search needs) (λ c. search needs) returns-2)

@@ -5,11 +5,5 @@ use borrow.Author.Tests.{eqb-true, eqb-false}
 use Rattle.certify_cares.proofs.barred.marked.Statement.{statement}
 use Rattle.certify_cares.proofs.barred.marked.Tie as tie
 
-shr-result : tie.Need-shr-result
-shr-result c = search needs
-
-returns : tie.Need-returns
-returns c = (eqb-true _ _, eqb-false _ _)
-
 pub marked-spec : {M : Type 1} → statement M
-marked-spec = tie.close (tie.spec shr-result returns)
+marked-spec = tie.close (tie.spec (λ c. search needs) (λ c. (eqb-true _ _, eqb-false _ _)))

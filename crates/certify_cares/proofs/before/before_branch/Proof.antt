@@ -8,15 +8,6 @@ use Rattle.certify_cares.proofs.before.before_branch.Tie as tie
 returns : tie.Need-returns
 returns c = let b = c .before .before .before .before in (b .pre, λ s s' told h. (h, one-operand (b .args .e .instruction) (c .if1 .taken) s s'))
 
-branch-shares-requires : tie.Need-branch-shares-requires
-branch-shares-requires c κs = search needs
-
-note-requires : tie.Need-note-requires
-note-requires c κs = search needs
-
-note-requires-2 : tie.Need-note-requires-2
-note-requires-2 c κs = search needs
-
 returns-2 : tie.Need-returns-2
 returns-2 c =
     let e = c .before .before .before .before .before .before .before .before .before .args .e in (
@@ -29,4 +20,4 @@ returns-2 c =
 
 pub before-branch-spec : {M : Type 1} → statement M
 before-branch-spec =
-    tie.close (tie.spec returns branch-shares-requires note-requires note-requires-2 returns-2)
+    tie.close (tie.spec returns (λ c κs. search needs) (λ c κs. search needs) (λ c κs. search needs) returns-2)

@@ -6,18 +6,6 @@ use borrow.Author.Needs.{needs}
 use Rattle.certify_cares.proofs.before.before_compute.Statement.{statement}
 use Rattle.certify_cares.proofs.before.before_compute.Tie as tie
 
-take-requires : tie.Need-take-requires
-take-requires c κs = search needs
-
-compute-shares-requires : tie.Need-compute-shares-requires
-compute-shares-requires c κs = search needs
-
-note-requires : tie.Need-note-requires
-note-requires c κs = search needs
-
-note-requires-2 : tie.Need-note-requires-2
-note-requires-2 c κs = search needs
-
 returns : tie.Need-returns
 returns c =
     let e = c .before .before .before .before .before .before .before .before .args .e in
@@ -32,4 +20,4 @@ returns c =
 pub before-compute-spec : {M : Type 1} → statement M
 before-compute-spec =
     tie.close
-    (tie.spec take-requires compute-shares-requires note-requires note-requires-2 returns)
+    (tie.spec (λ c κs. search needs) (λ c κs. search needs) (λ c κs. search needs) (λ c κs. search needs) returns)

@@ -6,32 +6,14 @@ use borrow.Author.Needs.{needs}
 use Rattle.certify_cares.proofs.before.compute_shares.Statement.{statement}
 use Rattle.certify_cares.proofs.before.compute_shares.Tie as tie
 
-both-requires : tie.Need-both-requires
-both-requires c κs = search needs
-
-returns : tie.Need-returns
-returns c = λ x' y' p q. nothing-asked (c .before .if1 .taken)
-
-sum-shares-requires : tie.Need-sum-shares-requires
-sum-shares-requires c κs = search needs
-
 returns-2 : tie.Need-returns-2
 returns-2 c = λ x' y' p q. rw (is-sum _ (c .before .if2 .taken)) (c .sum-shares .ensures x' y' p q)
-
-difference-shares-requires : tie.Need-difference-shares-requires
-difference-shares-requires c κs = search needs
 
 returns-3 : tie.Need-returns-3
 returns-3 c = λ x' y' p q. rw (is-difference _ (c .before .if3 .taken)) (c .difference-shares .ensures x' y' p q)
 
-exclusive-shares-requires : tie.Need-exclusive-shares-requires
-exclusive-shares-requires c κs = search needs
-
 returns-4 : tie.Need-returns-4
 returns-4 c = λ x' y' p q. rw (is-exclusive _ (c .before .if4 .taken)) (c .exclusive-shares .ensures x' y' p q)
-
-equal-shares-requires : tie.Need-equal-shares-requires
-equal-shares-requires c κs = search needs
 
 returns-5 : tie.Need-returns-5
 returns-5 c = λ x' y' p q. rw (is-equal _ (c .before .before .before .if2 .left) (c .before .before .if3 .left) (c .before .if4 .left)) (same-equal _ _ x' y' (c .equal-shares .ensures x' y' p q))
@@ -40,13 +22,13 @@ pub compute-shares-spec : {M : Type 1} → statement M
 compute-shares-spec =
     tie.close
     (tie.spec
-    both-requires
-    returns
-    sum-shares-requires
+    (λ c κs. search needs)
+    (λ c. λ x' y' p q. nothing-asked (c .before .if1 .taken))
+    (λ c κs. search needs)
     returns-2
-    difference-shares-requires
+    (λ c κs. search needs)
     returns-3
-    exclusive-shares-requires
+    (λ c κs. search needs)
     returns-4
-    equal-shares-requires
+    (λ c κs. search needs)
     returns-5)

@@ -7,23 +7,14 @@ use borrow.Author.Needs.{needs}
 use Rattle.certify_cares.proofs.before.equal_shares.Statement.{statement}
 use Rattle.certify_cares.proofs.before.equal_shares.Tie as tie
 
-both-requires : tie.Need-both-requires
-both-requires c κs = search needs
-
 returns : tie.Need-returns
 returns c = let b = c .both .ensures in λ x' y' p q. same-test (rw (b .0) at p) (rw (b .1) at q)
 
-add-t6 : tie.Need-add-t6
-add-t6 c = search needs
-
 returns-2 : tie.Need-returns-2
 returns-2 c = λ x' y' p q. not-first refl refl (c .before .if1 .left) (omega arith) p q
-
-add-t8 : tie.Need-add-t8
-add-t8 c = search needs
 
 returns-3 : tie.Need-returns-3
 returns-3 c = λ x' y' p q. not-second refl refl (c .before .if1 .left) (omega arith) q p
 
 pub equal-shares-spec : {M : Type 1} → statement M
-equal-shares-spec = tie.close (tie.spec both-requires returns add-t6 returns-2 add-t8 returns-3)
+equal-shares-spec = tie.close (tie.spec (λ c κs. search needs) returns (λ c. search needs) returns-2 (λ c. search needs) returns-3)

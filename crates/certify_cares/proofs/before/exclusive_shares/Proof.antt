@@ -7,29 +7,14 @@ use borrow.Author.Needs.{needs}
 use Rattle.certify_cares.proofs.before.exclusive_shares.Statement.{statement}
 use Rattle.certify_cares.proofs.before.exclusive_shares.Tie as tie
 
-barring-requires : tie.Need-barring-requires
-barring-requires c κs = search needs
-
-both-requires : tie.Need-both-requires
-both-requires c κs = search needs
-
 returns : tie.Need-returns
 returns c = let b = c .both .ensures in let l = c .before .barring .ensures in λ x' y' p q. placed-exclusive (c .before .before .if1 .taken) (rw (b .0, l) at p) (rw (b .1, l) at q)
-
-both-requires-2 : tie.Need-both-requires-2
-both-requires-2 c κs = search needs
 
 returns-2 : tie.Need-returns-2
 returns-2 c = let b = c .both2 .ensures in λ x' y' p q. same-result _ (rw (b .0) at p) (rw (b .1) at q)
 
-both-requires-3 : tie.Need-both-requires-3
-both-requires-3 c κs = search needs
-
 returns-3 : tie.Need-returns-3
 returns-3 c = let b = c .both3 .ensures in λ x' y' p q. same-result _ (rw (b .0) at p) (rw (b .1) at q)
-
-cast-e : tie.Need-cast-e
-cast-e c = search needs
 
 cast-t10 : tie.Need-cast-t10
 cast-t10 c = let a = c .before .before .before .before .args in let t = exclusive-byte (a .x) (a .care) (omega arith) in omega arith
@@ -53,14 +38,14 @@ pub exclusive-shares-spec : {M : Type 1} → statement M
 exclusive-shares-spec =
     tie.close
     (tie.spec
-    barring-requires
-    both-requires
+    (λ c κs. search needs)
+    (λ c κs. search needs)
     returns
-    both-requires-2
+    (λ c κs. search needs)
     returns-2
-    both-requires-3
+    (λ c κs. search needs)
     returns-3
-    cast-e
+    (λ c. search needs)
     cast-t10
     add-t11
     returns-4

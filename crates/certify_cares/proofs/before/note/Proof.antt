@@ -18,21 +18,6 @@ returns-2 c =
     let l = c .if2 .taken in
     (h, noted-past (a .of .now) (a .k) (a .n) (a .care) (c .before .if1 .left) (omega arith))
 
-mul-joined : tie.Need-mul-joined
-mul-joined c = search needs
-
-element-copy-out-joined : tie.Need-element-copy-out-joined
-element-copy-out-joined c = search needs
-
-joined-requires : tie.Need-joined-requires
-joined-requires c κs = search needs
-
-mul-of : tie.Need-mul-of
-mul-of c = search needs
-
-element-write-of : tie.Need-element-write-of
-element-write-of c = search needs
-
 returns-3 : tie.Need-returns-3
 returns-3 c =
     let a = c .before .before .before .before .args in
@@ -46,9 +31,9 @@ note-spec =
     (tie.spec
     returns
     returns-2
-    mul-joined
-    element-copy-out-joined
-    joined-requires
-    mul-of
-    element-write-of
+    (λ c. search needs)
+    (λ c. search needs)
+    (λ c κs. search needs)
+    (λ c. search needs)
+    (λ c. search needs)
     returns-3)

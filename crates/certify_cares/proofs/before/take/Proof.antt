@@ -16,18 +16,6 @@ returns c =
     let l = c .if1 .taken in
     (h, (sym (List·getD-eq-default k 2 {n = c .before .args .r} (omega arith)), λ s s' a j d. a j))
 
-mul-care : tie.Need-mul-care
-mul-care c = search needs
-
-element-copy-out-care : tie.Need-element-copy-out-care
-element-copy-out-care c = search needs
-
-mul-of : tie.Need-mul-of
-mul-of c = search needs
-
-element-write-of : tie.Need-element-write-of
-element-write-of c = search needs
-
 returns-2 : tie.Need-returns-2
 returns-2 c =
     let k = c .before .before .args .of .now in
@@ -38,4 +26,4 @@ returns-2 c =
 
 pub take-spec : {M : Type 1} → statement M
 take-spec =
-    tie.close (tie.spec returns mul-care element-copy-out-care mul-of element-write-of returns-2)
+    tie.close (tie.spec returns (λ c. search needs) (λ c. search needs) (λ c. search needs) (λ c. search needs) returns-2)

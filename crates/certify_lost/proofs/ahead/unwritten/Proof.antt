@@ -9,24 +9,9 @@ use Rattle.certify_lost.specs.Lost.{Unwritten}
 use Rattle.certify_lost.proofs.ahead.unwritten.Statement.{statement}
 use Rattle.certify_lost.proofs.ahead.unwritten.Tie as tie
 
-enum-told : tie.Need-enum-told
-enum-told c = search needs
-
-enum-known-a : tie.Need-enum-known-a
-enum-known-a c = search needs
-
-returns : tie.Need-returns
-returns c = λ e. absurd (subst T (sym e) tt)
-
-marked-requires : tie.Need-marked-requires
-marked-requires c κs = search needs
-
-returns-2 : tie.Need-returns-2
-returns-2 c = λ e. subst (Unwritten _) (sym (c .enum-told .given .1)) tt
-
 returns-3 : tie.Need-returns-3
 returns-3 c = λ e. subst (Unwritten _) (sym (c .before .before .before .a .given .1)) (omega arith, c .marked .ensures .1 (not-true _ e))
 
 pub unwritten-spec : {M : Type 1} → statement M
 unwritten-spec =
-    tie.close (tie.spec enum-told enum-known-a returns marked-requires returns-2 returns-3)
+    tie.close (tie.spec (λ c. search needs) (λ c. search needs) (λ c e. absurd (subst T (sym e) tt)) (λ c κs. search needs) (λ c e. subst (Unwritten _) (sym (c .enum-told .given .1)) tt) returns-3)

@@ -8,27 +8,6 @@ use borrow.Author.Needs.{needs}
 use Rattle.certify_lost.proofs.ahead.written.Statement.{statement}
 use Rattle.certify_lost.proofs.ahead.written.Tie as tie
 
-enum-known-x : tie.Need-enum-known-x
-enum-known-x c = search needs
-
-writing-requires : tie.Need-writing-requires
-writing-requires c κs = search needs
-
-enum-known-x-2 : tie.Need-enum-known-x-2
-enum-known-x-2 c = search needs
-
-writing-requires-2 : tie.Need-writing-requires-2
-writing-requires-2 c κs = search needs
-
-enum-told : tie.Need-enum-told
-enum-told c = search needs
-
-enum-told-2 : tie.Need-enum-told-2
-enum-told-2 c = search needs
-
-enum-told-3 : tie.Need-enum-told-3
-enum-told-3 c = search needs
-
 returns : tie.Need-returns
 returns c = record { before = c .writing .ensures .1; written = λ n b e. writes-this _ n _ _ _ (c .before .before .x .given .1) e (c .writing .ensures .0) b (λ i. i) }
 
@@ -48,13 +27,13 @@ pub written-spec : {M : Type 1} → statement M
 written-spec =
     tie.close
     (tie.spec
-    enum-known-x
-    writing-requires
-    enum-known-x-2
-    writing-requires-2
-    enum-told
-    enum-told-2
-    enum-told-3
+    (λ c. search needs)
+    (λ c κs. search needs)
+    (λ c. search needs)
+    (λ c κs. search needs)
+    (λ c. search needs)
+    (λ c. search needs)
+    (λ c. search needs)
     returns
     returns-2
     returns-3

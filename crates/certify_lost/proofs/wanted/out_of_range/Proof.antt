@@ -6,32 +6,11 @@ use borrow.Author.Needs.{needs}
 use Rattle.certify_lost.proofs.wanted.out_of_range.Statement.{statement}
 use Rattle.certify_lost.proofs.wanted.out_of_range.Tie as tie
 
-add-if1 : tie.Need-add-if1
-add-if1 c = search needs
-
-cast-result : tie.Need-cast-result
-cast-result c = search needs
-
-add-result : tie.Need-add-result
-add-result c = search needs
-
 returns : tie.Need-returns
 returns c = λ out y a z. not-one (c .before .before .before .before .args .w) (c .before .before .before .before .args .v) y out z (c .before .before .before .before .pre) (c .before .if1 .taken) a
 
-cast-result-2 : tie.Need-cast-result-2
-cast-result-2 c = search needs
-
-add-result-2 : tie.Need-add-result-2
-add-result-2 c = search needs
-
 returns-2 : tie.Need-returns-2
 returns-2 c = λ out y a z. not-below (c .before .before .before .before .before .before .args .w) (c .before .before .before .before .before .before .args .v) y out z (c .before .before .before .before .before .before .pre) a
-
-cast-result-3 : tie.Need-cast-result-3
-cast-result-3 c = search needs
-
-add-result-3 : tie.Need-add-result-3
-add-result-3 c = search needs
 
 returns-3 : tie.Need-returns-3
 returns-3 c = λ out y a z. not-above (c .before .before .before .before .before .before .before .before .args .w) (c .before .before .before .before .before .before .before .before .args .v) y out z (let h = c .before .if3 .taken in omega arith) a
@@ -43,14 +22,14 @@ pub out-of-range-spec : {M : Type 1} → statement M
 out-of-range-spec =
     tie.close
     (tie.spec
-    add-if1
-    cast-result
-    add-result
+    (λ c. search needs)
+    (λ c. search needs)
+    (λ c. search needs)
     returns
-    cast-result-2
-    add-result-2
+    (λ c. search needs)
+    (λ c. search needs)
     returns-2
-    cast-result-3
-    add-result-3
+    (λ c. search needs)
+    (λ c. search needs)
     returns-3
     returns-4)

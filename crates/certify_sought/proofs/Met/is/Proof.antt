@@ -4,8 +4,5 @@ use Rattle.certify_sought.proofs.Numbers.{met-same}
 use Rattle.certify_sought.proofs.Met.is.Statement.{statement}
 use Rattle.certify_sought.proofs.Met.is.Tie as tie
 
-returns : tie.Need-returns
-returns c = met-same _ _
-
 pub is-spec : {M : Type 1} → statement M
-is-spec = tie.close (tie.spec returns)
+is-spec = tie.close (tie.spec (λ c. met-same _ _))

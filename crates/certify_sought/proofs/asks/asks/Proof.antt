@@ -6,27 +6,6 @@ use Rattle.certify_sought.proofs.Asking.{is-tried, load-asks, store-ask
 use Rattle.certify_sought.proofs.asks.asks.Statement.{statement}
 use Rattle.certify_sought.proofs.asks.asks.Tie as tie
 
-enum-known-x : tie.Need-enum-known-x
-enum-known-x c = search needs
-
-load-asks-requires : tie.Need-load-asks-requires
-load-asks-requires c κs = search needs
-
-enum-known-x-2 : tie.Need-enum-known-x-2
-enum-known-x-2 c = search needs
-
-store-asks-requires : tie.Need-store-asks-requires
-store-asks-requires c κs = search needs
-
-enum-told : tie.Need-enum-told
-enum-told c = search needs
-
-enum-told-2 : tie.Need-enum-told-2
-enum-told-2 c = search needs
-
-enum-told-3 : tie.Need-enum-told-3
-enum-told-3 c = search needs
-
 returns : tie.Need-returns
 returns c = load-asks _ _ _ _ _ _ _ _ _ _ (c .before .before .x .given .1) (c .load-asks .ensures)
 
@@ -46,13 +25,13 @@ pub asks-spec : {M : Type 1} → statement M
 asks-spec =
     tie.close
     (tie.spec
-    enum-known-x
-    load-asks-requires
-    enum-known-x-2
-    store-asks-requires
-    enum-told
-    enum-told-2
-    enum-told-3
+    (λ c. search needs)
+    (λ c κs. search needs)
+    (λ c. search needs)
+    (λ c κs. search needs)
+    (λ c. search needs)
+    (λ c. search needs)
+    (λ c. search needs)
     returns
     returns-2
     returns-3

@@ -6,46 +6,10 @@ use Rattle.certify_sought.proofs.Asking.{keeps-hole, fills-hole}
 use Rattle.certify_sought.proofs.asks.store_asks.Statement.{statement}
 use Rattle.certify_sought.proofs.asks.store_asks.Tie as tie
 
-value-of-requires : tie.Need-value-of-requires
-value-of-requires c κs = search needs
-
-address-requires : tie.Need-address-requires
-address-requires c κs = search needs
-
-value-of-requires-2 : tie.Need-value-of-requires-2
-value-of-requires-2 c κs = search needs
-
-place-requires : tie.Need-place-requires
-place-requires c κs = search needs
-
-barring-requires : tie.Need-barring-requires
-barring-requires c κs = search needs
-
-noting-requires : tie.Need-noting-requires
-noting-requires c κs = search needs
-
-other-values-requires : tie.Need-other-values-requires
-other-values-requires c κs = search needs
-
-noting-requires-2 : tie.Need-noting-requires-2
-noting-requires-2 c κs = search needs
-
-has-requires : tie.Need-has-requires
-has-requires c κs = search needs
-
 returns : tie.Need-returns
 returns c = let b = c .before .before in
     keeps-hole _ _ _ _ _ (b .before .before .before .before .before .before .before .before .pre) _ _ _ _ _ _ (b .before .before .before .before .before .before .before .value-of .ensures) (b .before .before .before .before .before .before .address .ensures .0) (b .before .before .before .before .before .value-of2 .ensures) (b .before .before .before .before .place .ensures) (b .before .before .before .barring .ensures) (b .before .other-values .ensures) _
     (λ s' g. let n = b .noting2 .ensures _ s' g in (b .before .before .noting .ensures _ s' (n .0) .1, n .1)) (was-false (c .before .has .ensures) (c .if1 .taken))
-
-unsought-requires : tie.Need-unsought-requires
-unsought-requires c κs = search needs
-
-cast-noting : tie.Need-cast-noting
-cast-noting c = search needs
-
-noting-requires-3 : tie.Need-noting-requires-3
-noting-requires-3 c κs = search needs
 
 returns-2 : tie.Need-returns-2
 returns-2 c = let b = c .before .before .before .before in
@@ -57,17 +21,17 @@ pub store-asks-spec : {M : Type 1} → statement M
 store-asks-spec =
     tie.close
     (tie.spec
-    value-of-requires
-    address-requires
-    value-of-requires-2
-    place-requires
-    barring-requires
-    noting-requires
-    other-values-requires
-    noting-requires-2
-    has-requires
+    (λ c κs. search needs)
+    (λ c κs. search needs)
+    (λ c κs. search needs)
+    (λ c κs. search needs)
+    (λ c κs. search needs)
+    (λ c κs. search needs)
+    (λ c κs. search needs)
+    (λ c κs. search needs)
+    (λ c κs. search needs)
     returns
-    unsought-requires
-    cast-noting
-    noting-requires-3
+    (λ c κs. search needs)
+    (λ c. search needs)
+    (λ c κs. search needs)
     returns-2)

@@ -7,12 +7,6 @@ use Rattle.certify_sought.proofs.goal.emptied.Tie as tie
 use Rattle.certify_sought.proofs.Met.with.Reads as with-reads
 use Rattle.certify_sought.proofs.Sought.seeks.Reads as seeks-reads
 
-seeks-requires : tie.Need-seeks-requires
-seeks-requires c κs = search needs
-
-with-requires : tie.Need-with-requires
-with-requires c κs = search needs
-
 returns : tie.Need-returns
 returns c = record { new = λ s. c .with .ensures; old = λ n. absurd (n (c .before .before .seeks .ensures .0 (c .before .if1 .taken))) }
 
@@ -20,4 +14,4 @@ returns-2 : tie.Need-returns-2
 returns-2 c = record { new = λ s. absurd (c .before .seeks .ensures .1 (c .if1 .left) s); old = λ n. refl }
 
 pub emptied-spec : {M : Type 1} → statement M
-emptied-spec = tie.close (tie.spec seeks-requires with-requires returns returns-2)
+emptied-spec = tie.close (tie.spec (λ c κs. search needs) (λ c κs. search needs) returns returns-2)

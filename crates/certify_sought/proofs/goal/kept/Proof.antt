@@ -11,11 +11,5 @@ use Rattle.machine.proofs.promises.is_empty.Reads as is-empty-reads
 returns : tie.Need-returns
 returns c = (λ e. absurd (subst T (sym e) tt), λ e z. absurd (c .if1 .taken z))
 
-is-empty-requires : tie.Need-is-empty-requires
-is-empty-requires c κs = search needs
-
-returns-2 : tie.Need-returns-2
-returns-2 c = is-kept _ _ _ (c .before .if1 .left) (c .is-empty .ensures)
-
 pub kept-spec : {M : Type 1} → statement M
-kept-spec = tie.close (tie.spec returns is-empty-requires returns-2)
+kept-spec = tie.close (tie.spec returns (λ c κs. search needs) (λ c. is-kept _ _ _ (c .before .if1 .left) (c .is-empty .ensures)))

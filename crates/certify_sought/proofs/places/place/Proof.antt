@@ -6,18 +6,6 @@ use Rattle.certify_sought.proofs.Placing.{elsewhere}
 use Rattle.certify_sought.proofs.places.place.Statement.{statement}
 use Rattle.certify_sought.proofs.places.place.Tie as tie
 
-returns : tie.Need-returns
-returns c = λ l low out. absurd (out (all-marked l low))
-
-locations-requires : tie.Need-locations-requires
-locations-requires c κs = search needs
-
-sought-at-requires : tie.Need-sought-at-requires
-sought-at-requires c κs = search needs
-
-either-requires : tie.Need-either-requires
-either-requires c κs = search needs
-
 returns-2 : tie.Need-returns-2
 returns-2 c =
     let s = c .before .before .before .before in
@@ -26,4 +14,4 @@ returns-2 c =
 pub place-spec : {M : Type 1} → statement M
 place-spec =
     tie.close
-    (tie.spec returns locations-requires sought-at-requires either-requires returns-2)
+    (tie.spec (λ c l low out. absurd (out (all-marked l low))) (λ c κs. search needs) (λ c κs. search needs) (λ c κs. search needs) returns-2)

@@ -7,18 +7,6 @@ use Rattle.certify_sought.proofs.Placing.{vacant-out}
 use Rattle.certify_sought.proofs.places.vacancy.Statement.{statement}
 use Rattle.certify_sought.proofs.places.vacancy.Tie as tie
 
-returns : tie.Need-returns
-returns c = λ j low out. absurd (out (all-marked j low))
-
-locations-requires : tie.Need-locations-requires
-locations-requires c κs = search needs
-
-marked-requires : tie.Need-marked-requires
-marked-requires c κs = search needs
-
-returns-2 : tie.Need-returns-2
-returns-2 c = λ j low out. absurd (out (all-marked j low))
-
 returns-3 : tie.Need-returns-3
 returns-3 c =
     let l = c .before .before in
@@ -29,4 +17,4 @@ returns-3 c =
 pub vacancy-spec : {M : Type 1} → statement M
 vacancy-spec =
     tie.close
-    (tie.spec returns locations-requires marked-requires returns-2 returns-3)
+    (tie.spec (λ c j low out. absurd (out (all-marked j low))) (λ c κs. search needs) (λ c κs. search needs) (λ c j low out. absurd (out (all-marked j low))) returns-3)

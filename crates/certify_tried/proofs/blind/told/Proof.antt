@@ -7,12 +7,6 @@ use borrow.Author.Needs.{needs}
 use Rattle.certify_tried.proofs.blind.told.Statement.{statement}
 use Rattle.certify_tried.proofs.blind.told.Tie as tie
 
-returns : tie.Need-returns
-returns c = λ e. absurd (subst T (sym e ∙ c .unknown .ensures) tt)
-
-returns-2 : tie.Need-returns-2
-returns-2 c = λ e. absurd (subst T (sym e ∙ c .unknown2 .ensures) tt)
-
 returns-3 : tie.Need-returns-3
 returns-3 c = λ e.
     record {
@@ -24,4 +18,4 @@ returns-3 c = λ e.
 
 pub told-spec : {M : Type 1} → statement M
 told-spec =
-    tie.close (tie.spec (λ c κs. search needs) (λ c κs. search needs) returns (λ c κs. search needs) (λ c κs. search needs) returns-2 (λ c κs. search needs) returns-3)
+    tie.close (tie.spec (λ c κs. search needs) (λ c κs. search needs) (λ c e. absurd (subst T (sym e ∙ c .unknown .ensures) tt)) (λ c κs. search needs) (λ c κs. search needs) (λ c e. absurd (subst T (sym e ∙ c .unknown2 .ensures) tt)) (λ c κs. search needs) returns-3)
