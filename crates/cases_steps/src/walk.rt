@@ -15,9 +15,9 @@ use machine::Machine;
 use machine::Message;
 use machine::machines::fresh;
 use program::Program;
-use step::StepAnswer;
 use step::Stepped;
 use step::TraceStep;
+use step::step_refusal;
 
 // What a row works on.
 pub struct Setting {
@@ -37,10 +37,7 @@ pub struct Command {
 fn told(name: &[u8], r: Stepped) {
     text(name);
     let answer = r.answer;
-    match answer {
-        StepAnswer::Taken => number(b' ', 0),
-        StepAnswer::Refused(n) => number(b' ', n),
-    }
+    number(b' ', step_refusal(answer));
     state(r.machine);
 }
 

@@ -5,7 +5,6 @@ ghost use Prim.Native.Nat.{ℕ, _*_};
 ghost use Rattle.program.specs.Program.{noProgram};
 ghost use Rattle.program.specs.File.{refused};
 ghost use Rattle.machine.specs.Inner.{Formed};
-ghost use Rattle.step.specs.Answers.{stepRefusal};
 ghost use Rattle.trace_replay.specs.Replay.{ended, broken, replayFrom};
 ghost use Rattle.trace_replay.specs.Answers.{replayed, onProgram, refusedWith, replay};
 use file_reader::ReadAnswer;
@@ -15,6 +14,7 @@ use machine::machines::fresh;
 use program::Program;
 use step::StepAnswer;
 use step::rule_step;
+use step::step_refusal;
 use step_ending::asked;
 use step_ending::complete;
 use trace_record::marked_at;
@@ -72,15 +72,6 @@ fn stopped(p: Program, number: u8, n: usize, at: usize, x: Machine) -> Replayed
     refused_with(ReplayAnswer::TraceRefused(number, n, at), p, n, x)
 }
 
-fn refusal(a: StepAnswer) -> u8
-    ensures { λ r. ⌜ r ≡ stepRefusal a ⌝ }
-{
-    match a {
-        StepAnswer::Taken => 0,
-        StepAnswer::Refused(n) => n,
-    }
-}
-
 // Whole records are taken one by one, the first on the machine `start`; then the trace may end inside another.
 fn replay_from(p: Program, start: Machine, trace: &[u8]) -> Replayed
     requires { ⌜ Formed p start ⌝ }
@@ -98,7 +89,7 @@ fn replay_from(p: Program, start: Machine, trace: &[u8]) -> Replayed
         let r = rule_step(p, x, step_at(trace, at));
         let answer = r.answer;
         let StepAnswer::Taken = answer else {
-            return stopped(p, refusal(answer), n, at, x);
+            return stopped(p, step_refusal(answer), n, at, x);
         };
         x = r.machine;
         n = next;

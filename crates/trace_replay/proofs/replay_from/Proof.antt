@@ -49,7 +49,7 @@ returns-2 c =
     let m = b .before in
     let l = m .before in
     c .stopped2 .ensures
-    ∙ ap (replayed _) (sym (step-refused _ _ _ _ (l .before .loop .inv) (l .loop-test .taken) (sym (m .marked-at .ensures) ∙ not-false _ (b .if1 .left)) _ (s .step-at .ensures) _ (r .rule-step .ensures) _ _ (a .refusal .ensures) (g .enum-told2 .given .1)))
+    ∙ ap (replayed _) (sym (step-refused _ _ _ _ (l .before .loop .inv) (l .loop-test .taken) (sym (m .marked-at .ensures) ∙ not-false _ (b .if1 .left)) _ (s .step-at .ensures) _ (r .rule-step .ensures) _ _ (a .step-refusal .ensures) (g .enum-told2 .given .1)))
 
 loop-again : tie.Need-loop-again Inv-loop μ-loop
 loop-again c =
