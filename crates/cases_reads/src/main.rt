@@ -3,8 +3,6 @@
 // A row of standard input has a name and the bytes that come after those of the lines with = and + above it.
 mod changed;
 
-use cases_rows::byte;
-use cases_rows::count;
 use cases_rows::file::File;
 use cases_rows::file::add;
 use cases_rows::file::none;
@@ -12,11 +10,13 @@ use cases_rows::file::readable;
 use cases_rows::find;
 use cases_rows::input;
 use cases_rows::line_at;
-use cases_rows::number;
-use cases_rows::text;
 use cases_rows::unread;
 use changed::changed;
 use file_reader::ReadAnswer;
+use text::byte;
+use text::count;
+use text::number;
+use text::text;
 
 fn answer(refusal: u8, place: usize) {
     number(b' ', refusal);

@@ -6,9 +6,7 @@ use crate::change::equal_messages;
 use crate::change::one_message;
 use crate::change::program_field;
 use crate::change::thread_field;
-use cases_rows::number;
 use cases_rows::show::state;
-use cases_rows::text;
 use cases_rows::unread;
 use certify::Certified;
 use machine::Machine;
@@ -18,6 +16,8 @@ use program::Program;
 use step::Stepped;
 use step::TraceStep;
 use step::step_refusal;
+use text::number;
+use text::text;
 
 // What a row works on.
 pub struct Setting {

@@ -1,13 +1,13 @@
 // An answer printed as document 01 says: the verdict, the count, and a line for each step of the trace; or the refusal.
 ghost use Prim.Native.Nat.{_*_, _≤_};
 ghost use lib.ListN.{length};
-use cases_rows::byte;
-use cases_rows::count;
-use cases_rows::number;
-use cases_rows::text;
 use search::Answer;
 use search::Verdict;
 use step::TraceStep;
+use text::byte;
+use text::count;
+use text::number;
+use text::text;
 use trace_record::step_at;
 
 fn verdict(name: &[u8], n: u64) {

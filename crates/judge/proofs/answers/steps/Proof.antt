@@ -1,10 +1,10 @@
--- `judging::answers::steps` meets its contract.
+-- `judge::answers::steps` meets its contract.
 -- Assumes nothing.
 use Prim.Native.Nat.{_-_, _*_, _≤_}
 use lib.ListN.{length}
 use borrow.Author.Needs.{needs}
-use Rattle.judging.proofs.answers.steps.Statement.{statement}
-use Rattle.judging.proofs.answers.steps.Tie as tie
+use Rattle.judge.proofs.answers.steps.Statement.{statement}
+use Rattle.judge.proofs.answers.steps.Tie as tie
 
 abbrev Inv-loop : tie.InvT-loop
 Inv-loop trace n k₀ k = (6 * n ≤ length trace) × (k ≤ n)
