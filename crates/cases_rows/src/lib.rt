@@ -1,5 +1,6 @@
 // What the programs that run rows of cases share: where the parts of a row end, the bytes that a row writes out, and states printed.
 pub mod file;
+pub mod row;
 pub mod show;
 
 ghost use Prim.Native.Nat.{_<_, _≤_};
