@@ -1,16 +1,16 @@
 // One test on a line: its name, the budget, the published verdict and the bytes of the program file, a space between.
-use cases_rows::count;
 use cases_rows::file::File;
 use cases_rows::file::add;
 use cases_rows::file::none;
 use cases_rows::file::readable;
 use cases_rows::find;
-use cases_rows::number;
-use cases_rows::text;
 use check::same;
 use judge_budget::Budget;
 use judge_budget::budget_of;
 use search::Verdict;
+use text::count;
+use text::number;
+use text::text;
 
 // What came of a line. Open: not finished, where the published verdict is allowed or forbidden.
 pub enum Came {

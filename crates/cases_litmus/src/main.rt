@@ -2,12 +2,12 @@
 // verdict beside them; then how many there are.
 mod line;
 
-use cases_rows::count;
 use cases_rows::input;
 use cases_rows::line_at;
-use cases_rows::text;
 use line::Came;
 use line::line;
+use text::count;
+use text::text;
 
 pub struct Tally {
     pub tests: usize,

@@ -3,20 +3,19 @@
 // A row of standard input has a name and the bytes that come after those of the lines with = and + above it.
 mod changed;
 
-use cases_rows::byte;
-use cases_rows::count;
 use cases_rows::file::File;
 use cases_rows::file::add;
 use cases_rows::file::none;
 use cases_rows::file::readable;
-use cases_rows::find;
 use cases_rows::input;
-use cases_rows::line_at;
-use cases_rows::number;
-use cases_rows::text;
+use cases_rows::row::row_from;
 use cases_rows::unread;
 use changed::changed;
 use file_reader::ReadAnswer;
+use text::byte;
+use text::count;
+use text::number;
+use text::text;
 
 fn answer(refusal: u8, place: usize) {
     number(b' ', refusal);
@@ -37,45 +36,34 @@ pub fn read(bytes: &[u8; 700], n: usize) {
     }
 }
 
-fn row(name: &[u8], f: File) {
-    if readable(f) {
+fn row(name: &[u8], f: File, bytes: &[u8]) {
+    let g = add(f, bytes);
+    if readable(g) {
         text(name);
-        let b = f.bytes;
-        read(&b, f.len);
+        let b = g.bytes;
+        read(&b, g.len);
     } else {
         unread(name);
     }
 }
 
-// A line without its comment; the file that the next rows begin with.
-fn line(f: File, s: &[u8]) -> File {
-    if s.len() == 0 {
-        return f;
-    }
-    match s[0] {
-        b'=' | b'+' => return add(f, s),
-        b'!' => changed(f),
-        _ => {
-            let space = find(s, 0, b' ');
-            row(&s[0..space], add(f, &s[space..s.len()]));
+fn rows(s: &[u8]) {
+    let mut r = row_from(none(), s, 0);
+    while r.at < r.next {
+        let at = r.at;
+        let space = r.space;
+        let mark = r.mark;
+        if s[at] == b'!' {
+            changed(r.file);
+        } else {
+            row(&s[at..space], r.file, &s[space..mark]);
         }
-    }
-    f
-}
-
-fn lines(s: &[u8]) {
-    let mut f = none();
-    let mut at = 0;
-    while at < s.len() {
-        let l = line_at(s, at);
-        let mark = l.mark;
-        f = line(f, &s[at..mark]);
-        at = l.next;
+        r = row_from(r.file, s, r.next);
     }
 }
 
 fn main() {
     let mut buffer = io::large_buffer();
     let n = input(&mut buffer);
-    lines(&buffer[0..n]);
+    rows(&buffer[0..n]);
 }

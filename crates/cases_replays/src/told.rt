@@ -1,8 +1,8 @@
 // A replay, and its answer printed on one line.
-use cases_rows::count;
-use cases_rows::number;
 use cases_rows::show::state;
-use cases_rows::text;
+use text::count;
+use text::number;
+use text::text;
 use trace_replay::ReplayAnswer;
 
 fn answer(file: &[u8], refusal: u8, index: usize, place: usize) {

@@ -1,7 +1,5 @@
 // Bytes as a row writes them out: a capital letter for itself, any other byte as two hexadecimal digits in lower case, spaces where
 // they help to read. `PG 01 02` is 50 47 01 02.
-//
-// A line that begins with = gives a file, one that begins with + goes on with it; the rows after them are about that file.
 
 // The first `len` bytes. Open: the first digit of a byte is read and stands in `high`, as the upper half. Bad: something is no byte,
 // or there is no room.

@@ -1,12 +1,12 @@
-// What the programs that run rows of cases share: where the parts of a row end, the bytes that a row writes out, and text, numbers
-// and states printed.
+// What the programs that run rows of cases share: where the parts of a row end, the bytes that a row writes out, and states printed.
 pub mod file;
+pub mod row;
 pub mod show;
 
 ghost use Prim.Native.Nat.{_<_, _≤_};
 ghost use lib.ListN.{length};
 use libc::STDIN_FILENO;
-use libc::STDOUT_FILENO;
+use text::text;
 
 // The first place from `from` on that holds b, or the end.
 pub fn find(s: &[u8], from: usize, b: u8) -> usize
@@ -46,25 +46,6 @@ pub fn line_at(s: &[u8], at: usize) -> Line
         mark: mark,
         next: end,
     }
-}
-
-pub fn text(s: &[u8]) {
-    io::write_all(STDOUT_FILENO, s);
-}
-
-// A byte costs its callers far less to prove than a text of one byte does.
-pub fn byte(b: u8) {
-    let one = [b];
-    io::write_all(STDOUT_FILENO, &one);
-}
-
-pub fn count(label: u8, v: usize) {
-    byte(label);
-    io::print_decimal(STDOUT_FILENO, v as u64);
-}
-
-pub fn number(label: u8, v: u8) {
-    count(label, v as usize);
 }
 
 // A row that cannot be read says so, and the comparison of what is printed shows it.

@@ -6,18 +6,18 @@ use crate::change::equal_messages;
 use crate::change::one_message;
 use crate::change::program_field;
 use crate::change::thread_field;
-use cases_rows::number;
 use cases_rows::show::state;
-use cases_rows::text;
 use cases_rows::unread;
 use certify::Certified;
 use machine::Machine;
 use machine::Message;
 use machine::machines::fresh;
 use program::Program;
-use step::StepAnswer;
 use step::Stepped;
 use step::TraceStep;
+use step::step_refusal;
+use text::number;
+use text::text;
 
 // What a row works on.
 pub struct Setting {
@@ -37,10 +37,7 @@ pub struct Command {
 fn told(name: &[u8], r: Stepped) {
     text(name);
     let answer = r.answer;
-    match answer {
-        StepAnswer::Taken => number(b' ', 0),
-        StepAnswer::Refused(n) => number(b' ', n),
-    }
+    number(b' ', step_refusal(answer));
     state(r.machine);
 }
 

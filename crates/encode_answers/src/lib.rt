@@ -21,13 +21,13 @@ use encode_numbers::replay_place;
 use encode_numbers::replay_refusal;
 use encode_numbers::search_place;
 use encode_numbers::search_refusal;
-use encode_numbers::step_refusal;
 use encode_numbers::verdict_byte;
 use encode_numbers::yes_byte;
 use encode_program::put_program;
 use program::FileRead;
 use search::Answer;
 use step::Stepped;
+use step::step_refusal;
 use trace_replay::Replayed;
 
 pub fn put_read(area: &mut [u8], r: FileRead)

@@ -2,12 +2,10 @@
 ghost use mathlib.Core.Path.{_≡_};
 ghost use mathlib.Core.Bool.{cond};
 ghost use Rattle.certify.specs.Answers.{certifyRefusal};
-ghost use Rattle.step.specs.Answers.{stepRefusal};
 ghost use Rattle.encode_numbers.specs.Cases.{readRefusal, readPlace, certifiedByte, replayRefusal, replayFile, replayIndex, replayPlace, verdictByte, searchRefusal, searchPlace};
 use certify::Certified;
 use program::ReadAnswer;
 use search::Verdict;
-use step::StepAnswer;
 use trace_replay::ReplayAnswer;
 
 // ---- read
@@ -26,16 +24,6 @@ pub fn read_place(a: ReadAnswer) -> usize
     match a {
         ReadAnswer::Good => 0,
         ReadAnswer::Refused(_, place) => place,
-    }
-}
-
-// ---- step
-pub fn step_refusal(a: StepAnswer) -> u8
-    ensures { λ r. ⌜ r ≡ stepRefusal a ⌝ }
-{
-    match a {
-        StepAnswer::Taken => 0,
-        StepAnswer::Refused(n) => n,
     }
 }
 

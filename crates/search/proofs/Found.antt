@@ -19,7 +19,7 @@ use Rattle.theory_sequences.specs.Answer.{allowed}
 use Rattle.theory_sequences.proofs.Listed.{first-step}
 use Rattle.step.specs.Step.{Step, step}
 use Rattle.step.specs.Outcome.{complete, questionHolds, asked}
-use Rattle.step.specs.Trace.{traceBytes}
+use Rattle.trace_record.specs.Trace.{traceBytes}
 use Rattle.trace_replay.specs.Replay.{ended}
 use Rattle.trace_replay.specs.Answers.{replayed, replay}
 use Rattle.trace_replay.specs.InTurn.{InTurn, no-step, a-step}

@@ -18,14 +18,14 @@ use Rattle.theory_sequences.specs.Answer as sequences
 use Rattle.theory_sequences.specs.Demand.{Demand}
 use Rattle.step.specs.Step.{Step}
 use Rattle.step.specs.Outcome.{complete}
-use Rattle.step.specs.Trace.{traceBytes}
+use Rattle.trace_record.specs.Trace.{traceBytes}
 use Rattle.trace_replay.specs.Replay.{ended}
 use Rattle.trace_replay.specs.declared.ReplayAnswer.the-variants.{Good}
 use Rattle.trace_replay.specs.declared.Replayed.{Replayed}
 use Rattle.trace_replay.specs.Answers.{replayed, replay}
 use Rattle.search_sequences.specs.OfProgram.{stepping, answerTo}
 use Rattle.search_sequences.proofs.Meaning.{demand-3, more-budget-allowed, more-budget-forbidden}
-use Rattle.search_arrivals.proofs.Telling.{trace-length}
+use Rattle.trace_record.proofs.Writing.{trace-length}
 use Rattle.search.specs.Answers.{Verdict, Allowed, Forbidden, NotFinished, Answer, answerOf, areaOf, refusal, answerOn, areaOn, Searched, SearchedWithin}
 use Rattle.search.specs.Meaning.{Replays}
 use Rattle.search.proofs.Told.{size-small}

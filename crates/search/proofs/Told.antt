@@ -26,7 +26,7 @@ use Rattle.theory_sequences.specs.Answer as sequences
 use Rattle.theory_sequences.proofs.Scan.{answer-told, left-le}
 use Rattle.theory_sequences.specs.Scan.{Scan, going, found, out, scan, told, leftOf}
 use Rattle.step.specs.Step.{Step}
-use Rattle.step.specs.Trace.{traceBytes}
+use Rattle.trace_record.specs.Trace.{traceBytes}
 use Rattle.step.proofs.Bound.{potential-fresh}
 use Rattle.step.proofs.Kept.{fresh-formed}
 use Rattle.trace_replay.proofs.Files.{read-good, read-refused}
@@ -40,7 +40,7 @@ use Rattle.search_arrivals.specs.declared.Ran.the-variants.{Going, Found, Out}
 use Rattle.search_arrivals.specs.Visits.{visiting, Reports, Visitable, Known}
 use Rattle.search_sequences.proofs.Machine.{lawful}
 use Rattle.search_arrivals.proofs.Parts.{visiting-is}
-use Rattle.search_arrivals.proofs.Telling.{trace-length}
+use Rattle.trace_record.proofs.Writing.{trace-length}
 
 -- ---- the room for every trace
 sixteen-each : (n : ℕ) → sumBelow (λ i. 16) n ≡ 16 * n

@@ -8,7 +8,7 @@ use lib.Dec.{ltb}
 use lib.ListN.{length, drop, replicate}
 use Rattle.program.specs.File.{FileAnswer, refused, program, readFile}
 use Rattle.step.specs.Step.{Step}
-use Rattle.step.specs.Trace.{traceBytes}
+use Rattle.trace_record.specs.Trace.{traceBytes}
 use Rattle.theory_sequences.specs.Answer as sequences
 use Rattle.search_sequences.specs.OfProgram.{answerTo}
 pub use Rattle.search.specs.declared.Verdict.{Verdict}

@@ -27,7 +27,7 @@ use Rattle.theory_sequences.specs.Scan.{Scan, going, found, out, andThen, under
 use Rattle.step.specs.Step.{Step, accepted, rejected, step}
 use Rattle.step.specs.Inner.{Here}
 use Rattle.step.specs.Outcome.{complete, questionHolds, asked}
-use Rattle.step.specs.Trace.{stepBytes, traceBytes}
+use Rattle.trace_record.specs.Trace.{stepBytes, traceBytes}
 use Rattle.search_sequences.specs.OfProgram.{stepping}
 use Rattle.search_arrivals.specs.Visits.{Ran, Going, Found, Out, visiting, trying, atEnd, Reports, Visitable}
 use Rattle.search_tries.specs.Steps.{NextOpen, stepNumbered, NextStep}
@@ -36,7 +36,8 @@ use Rattle.search_arrivals.proofs.Ranges.{steps-from, next-step, at-end
 use Rattle.search_arrivals.proofs.Parts.{visiting-is, none-left, is-wanted, not-wanted, no-step, two-parts, step-refused, step-accepted}
 use Rattle.search_arrivals.proofs.Skipped.{no-more-threads, passed-over}
 use Rattle.search_tries.proofs.Worth.{nothing-left}
-use Rattle.search_arrivals.proofs.Telling.{trace-length, put-under, went-on}
+use Rattle.trace_record.proofs.Writing.{trace-length, put-under}
+use Rattle.search_arrivals.proofs.Telling.{went-on}
 
 -- one part after another, and then a third
 then-then : (o : Scan Step) (f g : ℕ → Scan Step) → andThen (andThen o f) g ≡ andThen o (λ b. andThen (f b) g)

@@ -13,7 +13,7 @@ use Rattle.theory_sequences.specs.Sequences.{upto, branches, wanted}
 use Rattle.theory_sequences.specs.Demand.{NoneWanted}
 use Rattle.theory_sequences.specs.Scan.{Scan, going, found, out, scan}
 use Rattle.step.specs.Step.{Step}
-use Rattle.step.specs.Trace.{traceBytes}
+use Rattle.trace_record.specs.Trace.{traceBytes}
 use Rattle.step.specs.Inner.{potential}
 use Rattle.encode_bytes.specs.Inner.{put}
 use Rattle.search_sequences.specs.OfProgram.{stepping}

@@ -28,7 +28,7 @@ use Rattle.step.specs.declared.Moved.{Moved}
 use Rattle.step.specs.Order.{execution}
 use Rattle.step.specs.Inner.{Here, Remembers, Moves, potential}
 use Rattle.step.proofs.Answered.{thread-taken, thread-refused}
-use Rattle.step.specs.Trace.{stepBytes}
+use Rattle.trace_record.specs.Trace.{stepBytes}
 use Rattle.step.proofs.Bound.{lowers}
 use Rattle.step.proofs.Kept.{kept}
 use Rattle.search_sequences.specs.Numbers.{keyPromise}

@@ -1,10 +1,5 @@
 // The visits: a state, then each state that an accepted step leads to. The trace is written on the way back.
-ghost use mathlib.Core.Path.{_≡_};
-ghost use Prim.Native.Nat.{_+_, _≤_};
-ghost use lib.ListN.{length};
-ghost use Rattle.step.specs.Trace.{stepBytes};
 ghost use Rattle.search_table.specs.Table.{EverySlot};
-ghost use Rattle.encode_bytes.specs.Inner.{put};
 ghost use Rattle.search_arrivals.specs.Visits.{visiting, Reports, Visitable, Known, Opens};
 use machine::Machine;
 use program::Program;
@@ -20,21 +15,8 @@ use search_tries::step_at;
 use search_tries::threads::next_open;
 use search_tries::tries_of;
 use step::StepAnswer;
-use step::TraceStep;
 use step::memory_after;
-
-// The six bytes of step k, at a place.
-fn put_step(area: &mut [u8], at: usize, k: TraceStep)
-    requires { ⌜ at + 6 ≤ length (now area) ⌝ }
-    ensures { λ _. ⌜ now (area .exit) ≡ put at (stepBytes k) (now (area .entry)) ⌝ }
-{
-    area[at] = 0x53;
-    area[at + 1] = 0x54;
-    area[at + 2] = k.kind;
-    area[at + 3] = k.thread;
-    area[at + 4] = k.a;
-    area[at + 5] = k.b;
-}
+use trace_record::put_step;
 
 // Visits x and each state that an accepted step leads to: threads ascending, from the first that is not at its end; within one,
 // executions by time, then promises by location, then value. A refused step costs nothing. y is x but for the memory and for the

@@ -2,7 +2,6 @@ pub mod Below
 pub mod Step
 pub mod Order
 pub mod Outcome
-pub mod Trace
 pub mod Reached
 pub mod Answers
 pub mod Inner

@@ -10,7 +10,7 @@ ghost use Rattle.machine.specs.State.{with, withPromises};
 ghost use Rattle.machine.specs.Inner.{Formed};
 ghost use Rattle.certify_runs.specs.Inner.{Ready};
 ghost use Rattle.step.specs.Step.{rejected, ruleStep};
-ghost use Rattle.step.specs.Answers.{Taken, Refused, stepped};
+ghost use Rattle.step.specs.Answers.{Taken, Refused, stepped, stepRefusal};
 ghost use Rattle.step.specs.Inner.{Settles, Executes, Promises, PromisesKept, Moves, Remembers};
 use certify::is_certified;
 use machine::Machine;
@@ -36,6 +36,16 @@ pub struct TraceStep {
 pub enum StepAnswer {
     Taken,
     Refused(u8),
+}
+
+// The number of a refusal, 0 where the step is taken.
+pub fn step_refusal(a: StepAnswer) -> u8
+    ensures { λ r. ⌜ r ≡ stepRefusal a ⌝ }
+{
+    match a {
+        StepAnswer::Taken => 0,
+        StepAnswer::Refused(n) => n,
+    }
 }
 
 // The answer, and the machine after it; a refused machine is as it came in.

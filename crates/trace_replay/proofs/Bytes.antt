@@ -11,7 +11,7 @@ use Rattle.machine.specs.declared.Machine.{Machine}
 use Rattle.machine.proofs.Formed.{MachineOk}
 use Rattle.machine.proofs.Effects.{effect-time}
 use Rattle.step.specs.Step.{Step, accepted, step}
-use Rattle.step.specs.Trace.{traceBytes}
+use Rattle.trace_record.specs.Trace.{traceBytes}
 use Rattle.step.proofs.Backwards.{Did, executed, promised, did}
 use Rattle.step.proofs.Bound.{well-formed}
 use Rattle.trace_replay.specs.InTurn.{InTurn, no-step, a-step}

@@ -15,7 +15,7 @@ use Rattle.machine.specs.declared.Machine.{Machine}
 use Rattle.machine.specs.State.{fresh}
 use Rattle.step.specs.Step.{Step, Decision, rejected, accepted, step}
 use Rattle.step.specs.Outcome.{complete, asked}
-use Rattle.step.specs.Trace.{traceBytes}
+use Rattle.trace_record.specs.Trace.{traceBytes}
 use Rattle.trace_replay.specs.Replay.{ended, broken, afterMark, afterStep, replayFrom}
 use Rattle.trace_replay.specs.Answers.{Replayed, replayed, onProgram, replay}
 use Rattle.trace_replay.specs.InTurn.{InTurn, no-step, a-step, TraceOf}

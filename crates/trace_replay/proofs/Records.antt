@@ -1,16 +1,12 @@
 -- What the code of replay relies on: the record at a place, and a replay that has come to it.
 -- Assumes nothing.
 use mathlib.Core.Path.{_≡_, refl, sym, ap, _∙_}
-use mathlib.Core.Bool.{_&&_}
+use mathlib.Core.Bool.{true, false}
 use mathlib.Core.List.{List, [], _∷_}
 use Prim.Native.Nat.{ℕ, suc, _+_, _*_, _≤_, _<_}
 use native.Mathlib.Omega.{arith}
-use lib.Dec.{eqb}
 use lib.ListN.{length, drop, length-drop, drop-of-length-le}
-use lib.Seq.{drop-cons}
-use borrow.Author.Tests.{eq-eqb, ne-eqb}
 use Rattle.program.specs.declared.Program.{Program}
-use Rattle.program.specs.File.{byteAt}
 use Rattle.machine.specs.declared.Machine.{Machine}
 use Rattle.machine.specs.Inner.{Formed}
 use Rattle.step.specs.declared.TraceStep.{TraceStep}
@@ -19,8 +15,9 @@ use Rattle.step.specs.declared.StepAnswer.the-variants.{Taken, Refused}
 use Rattle.step.specs.Step.{ruleStep, step}
 use Rattle.step.specs.Answers.{stepped, stepRefusal}
 use Rattle.step.proofs.Answered.{rule-taken, rule-refused, taken-formed}
+use Rattle.trace_record.specs.Inner.{markedAt, stepAt}
+use Rattle.trace_record.proofs.Reading.{record-at}
 use Rattle.trace_replay.specs.Replay.{ended, broken, afterMark, afterStep, replayFrom}
-use Rattle.trace_replay.specs.Answers.{stepAt}
 
 -- ---- a record that is cut off
 cut-off : (p : Program) (n : ℕ) (x : Machine) (t : List ℕ) → 0 < length t → length t < 6 → replayFrom p n x t ≡ broken 1 n x
@@ -32,22 +29,6 @@ cut-off p n x (c ∷ d ∷ k ∷ []) h l = refl
 cut-off p n x (c ∷ d ∷ k ∷ i ∷ []) h l = refl
 cut-off p n x (c ∷ d ∷ k ∷ i ∷ u ∷ []) h l = refl
 cut-off p n x (c ∷ d ∷ k ∷ i ∷ u ∷ v ∷ t) h l = absurd (omega arith)
-
--- ---- a record that is there
-module _ (t : List ℕ) where
-  next : (j k : ℕ) → k ≡ suc j → j < length t → drop j t ≡ byteAt t j ∷ drop k t
-  next j k e h = drop-cons t j 0 h ∙ ap (λ (i : ℕ). byteAt t j ∷ drop i t) (sym e)
-
-  record-at : (j : ℕ) → j + 6 ≤ length t → drop j t ≡ byteAt t j ∷ byteAt t (j + 1) ∷ byteAt t (j + 2) ∷ byteAt t (j + 3) ∷ byteAt t (j + 4) ∷ byteAt t (j + 5) ∷ drop (j + 6) t
-  record-at j h =
-      rw (
-        next j (j + 1) (omega arith) (omega arith),
-        next (j + 1) (j + 2) (omega arith) (omega arith),
-        next (j + 2) (j + 3) (omega arith) (omega arith),
-        next (j + 3) (j + 4) (omega arith) (omega arith),
-        next (j + 4) (j + 5) (omega arith) (omega arith),
-        next (j + 5) (j + 6) (omega arith) (omega arith),
-      )
 
 -- ---- n of the whole records are taken: the replay of the whole is that of the rest
 pub record Replaying (p : Program) (start : Machine) (t : List ℕ) (records n : ℕ) (x : Machine) : Type 0 where
@@ -79,37 +60,33 @@ module _ (p : Program) (start : Machine) (t : List ℕ) (records : ℕ) where
       pub full : 6 * n + 6 ≤ length t
       full = let w = r .whole in omega arith
 
-      the-record : replayFrom p 0 start t ≡ afterMark (eqb (byteAt t (6 * n)) 0x53 && eqb (byteAt t (6 * n + 1)) 0x54) n x (afterStep (λ y. replayFrom p (suc n) y (drop (6 * n + 6) t)) n x (step p x (stepAt t (6 * n))))
+      the-record : replayFrom p 0 start t ≡ afterMark (markedAt t (6 * n)) n x (afterStep (λ y. replayFrom p (suc n) y (drop (6 * n + 6) t)) n x (step p x (stepAt t (6 * n))))
       unfolding replayFrom
       the-record = r .rest ∙ ap (replayFrom p n x) (record-at t (6 * n) full)
 
-      pub first-mark : (byteAt t (6 * n) ≡ 0x53 → ⊥) → replayFrom p 0 start t ≡ broken 2 n x
-      first-mark h = the-record ∙ rw (ne-eqb (byteAt t (6 * n)) 0x53 h)
+      pub unmarked : markedAt t (6 * n) ≡ false → replayFrom p 0 start t ≡ broken 2 n x
+      unmarked h = the-record ∙ rw h
 
-      module _ (m : byteAt t (6 * n) ≡ 0x53) where
-        pub second-mark : (byteAt t (6 * n + 1) ≡ 0x54 → ⊥) → replayFrom p 0 start t ≡ broken 2 n x
-        second-mark h = the-record ∙ rw (eq-eqb (byteAt t (6 * n)) 0x53 m, ne-eqb (byteAt t (6 * n + 1)) 0x54 h)
+      module _ (m : markedAt t (6 * n) ≡ true) (k : TraceStep) (s : k ≡ stepAt t (6 * n)) (a : Stepped) (e : a ≡ stepped x (ruleStep p x k)) where
+        the-step : replayFrom p 0 start t ≡ afterStep (λ y. replayFrom p (suc n) y (drop (6 * n + 6) t)) n x (step p x k)
+        the-step = the-record ∙ rw (m, s)
 
-        module _ (m' : byteAt t (6 * n + 1) ≡ 0x54) (k : TraceStep) (s : k ≡ stepAt t (6 * n)) (a : Stepped) (e : a ≡ stepped x (ruleStep p x k)) where
-          the-step : replayFrom p 0 start t ≡ afterStep (λ y. replayFrom p (suc n) y (drop (6 * n + 6) t)) n x (step p x k)
-          the-step = the-record ∙ rw (eq-eqb (byteAt t (6 * n)) 0x53 m, eq-eqb (byteAt t (6 * n + 1)) 0x54 m', s)
+        pub step-refused : (i o : ℕ) → o ≡ stepRefusal (a .answer) → a .answer ≡ Refused i → replayFrom p 0 start t ≡ broken o n x
+        step-refused i o q h =
+            the-step ∙ ap (afterStep (λ y. replayFrom p (suc n) y (drop (6 * n + 6) t)) n x) (rule-refused p x (r .well) k a e i h)
+            ∙ ap (λ (b : ℕ). broken b n x) (sym (q ∙ ap stepRefusal h))
 
-          pub step-refused : (i o : ℕ) → o ≡ stepRefusal (a .answer) → a .answer ≡ Refused i → replayFrom p 0 start t ≡ broken o n x
-          step-refused i o q h =
-              the-step ∙ ap (afterStep (λ y. replayFrom p (suc n) y (drop (6 * n + 6) t)) n x) (rule-refused p x (r .well) k a e i h)
-              ∙ ap (λ (b : ℕ). broken b n x) (sym (q ∙ ap stepRefusal h))
-
-          pub step-taken : a .answer ≡ Taken → Replaying p start t records (n + 1) (a .machine)
-          step-taken h =
-              let place : 6 * n + 6 ≡ 6 * (n + 1) = omega arith in
-              let number : suc n ≡ n + 1 = omega arith in
-              record {
-                well = taken-formed p x (r .well) k a e h;
-                taken = omega arith;
-                whole = r .whole;
-                last = r .last;
-                rest =
-                    the-step ∙ ap (afterStep (λ y. replayFrom p (suc n) y (drop (6 * n + 6) t)) n x) (rule-taken p x (r .well) k a e h)
-                    ∙ ap (λ (i : ℕ). replayFrom p i (a .machine) (drop (6 * n + 6) t)) number
-                    ∙ ap (λ (j : ℕ). replayFrom p (n + 1) (a .machine) (drop j t)) place;
-              }
+        pub step-taken : a .answer ≡ Taken → Replaying p start t records (n + 1) (a .machine)
+        step-taken h =
+            let place : 6 * n + 6 ≡ 6 * (n + 1) = omega arith in
+            let number : suc n ≡ n + 1 = omega arith in
+            record {
+              well = taken-formed p x (r .well) k a e h;
+              taken = omega arith;
+              whole = r .whole;
+              last = r .last;
+              rest =
+                  the-step ∙ ap (afterStep (λ y. replayFrom p (suc n) y (drop (6 * n + 6) t)) n x) (rule-taken p x (r .well) k a e h)
+                  ∙ ap (λ (i : ℕ). replayFrom p i (a .machine) (drop (6 * n + 6) t)) number
+                  ∙ ap (λ (j : ℕ). replayFrom p (n + 1) (a .machine) (drop j t)) place;
+            }

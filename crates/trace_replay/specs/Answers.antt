@@ -2,13 +2,12 @@
 -- Assumes nothing.
 use mathlib.Core.Bool.{false}
 use mathlib.Core.List.{List}
-use Prim.Native.Nat.{ℕ, _+_, _*_}
+use Prim.Native.Nat.{ℕ, _*_}
 use Rattle.program.specs.declared.Program.{Program}
 use Rattle.program.specs.Program.{noProgram}
-use Rattle.program.specs.File.{FileAnswer, refused, program, byteAt, readFile}
+use Rattle.program.specs.File.{FileAnswer, refused, program, readFile}
 use Rattle.machine.specs.declared.Machine.{Machine}
 use Rattle.machine.specs.State.{fresh}
-use Rattle.step.specs.Step.{Step}
 use Rattle.step.specs.Outcome.{complete, asked}
 use Rattle.trace_replay.specs.Replay.{ReplayEnd, ended, broken, replayFrom}
 pub use Rattle.trace_replay.specs.declared.ReplayAnswer.{ReplayAnswer}
@@ -32,7 +31,3 @@ onProgram (program p) t = replayed p (replayFrom p 0 fresh t)
 -- REPLAY of a trace file on a program file
 unfoldable pub replay : List ℕ → List ℕ → Replayed
 replay f t = onProgram (readFile f) t
-
--- the step of the record at a place
-abbrev pub stepAt : List ℕ → ℕ → Step
-stepAt t at = record { kind = byteAt t (at + 2); thread = byteAt t (at + 3); a = byteAt t (at + 4); b = byteAt t (at + 5) }

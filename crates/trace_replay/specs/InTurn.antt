@@ -7,7 +7,7 @@ use lib.ListN.{length}
 use Rattle.program.specs.declared.Program.{Program}
 use Rattle.machine.specs.declared.Machine.{Machine}
 use Rattle.step.specs.Step.{Step, accepted, step}
-use Rattle.step.specs.Trace.{traceBytes}
+use Rattle.trace_record.specs.Trace.{traceBytes}
 
 -- the steps q, each accepted in turn, lead from x to y
 pub data InTurn (p : Program) : Machine → List Step → Machine → Type 0 where

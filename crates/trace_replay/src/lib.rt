@@ -1,24 +1,24 @@
 // Replay: the records of a trace file are taken one by one on the machine of a program file; the first refusal ends it.
 ghost use mathlib.Core.Path.{_≡_};
 ghost use mathlib.Core.List.{List};
-ghost use Prim.Native.Nat.{ℕ, _+_, _*_, _≤_};
-ghost use lib.ListN.{length};
+ghost use Prim.Native.Nat.{ℕ, _*_};
 ghost use Rattle.program.specs.Program.{noProgram};
 ghost use Rattle.program.specs.File.{refused};
 ghost use Rattle.machine.specs.Inner.{Formed};
-ghost use Rattle.step.specs.Answers.{stepRefusal};
 ghost use Rattle.trace_replay.specs.Replay.{ended, broken, replayFrom};
-ghost use Rattle.trace_replay.specs.Answers.{replayed, onProgram, refusedWith, replay, stepAt};
+ghost use Rattle.trace_replay.specs.Answers.{replayed, onProgram, refusedWith, replay};
 use file_reader::ReadAnswer;
 use file_reader::read;
 use machine::Machine;
 use machine::machines::fresh;
 use program::Program;
 use step::StepAnswer;
-use step::TraceStep;
 use step::rule_step;
+use step::step_refusal;
 use step_ending::asked;
 use step_ending::complete;
+use trace_record::marked_at;
+use trace_record::step_at;
 
 // Which file a refusal is in, its number, in the trace the record's index from 0, and the place.
 pub enum ReplayAnswer {
@@ -72,28 +72,6 @@ fn stopped(p: Program, number: u8, n: usize, at: usize, x: Machine) -> Replayed
     refused_with(ReplayAnswer::TraceRefused(number, n, at), p, n, x)
 }
 
-// The step of the record at a place.
-fn step_at(trace: &[u8], at: usize) -> TraceStep
-    requires { ⌜ at + 6 ≤ length (now trace) ⌝ }
-    ensures { λ r. ⌜ r ≡ stepAt (now (trace .entry)) at ⌝ }
-{
-    TraceStep {
-        kind: trace[at + 2],
-        thread: trace[at + 3],
-        a: trace[at + 4],
-        b: trace[at + 5],
-    }
-}
-
-fn refusal(a: StepAnswer) -> u8
-    ensures { λ r. ⌜ r ≡ stepRefusal a ⌝ }
-{
-    match a {
-        StepAnswer::Taken => 0,
-        StepAnswer::Refused(n) => n,
-    }
-}
-
 // Whole records are taken one by one, the first on the machine `start`; then the trace may end inside another.
 fn replay_from(p: Program, start: Machine, trace: &[u8]) -> Replayed
     requires { ⌜ Formed p start ⌝ }
@@ -105,16 +83,13 @@ fn replay_from(p: Program, start: Machine, trace: &[u8]) -> Replayed
     while n < records {
         let at = 6 * n;
         let next = n + 1;
-        if trace[at] != 0x53 {
-            return stopped(p, 2, n, at, x);
-        }
-        if trace[at + 1] != 0x54 {
+        if !marked_at(trace, at) {
             return stopped(p, 2, n, at, x);
         }
         let r = rule_step(p, x, step_at(trace, at));
         let answer = r.answer;
         let StepAnswer::Taken = answer else {
-            return stopped(p, refusal(answer), n, at, x);
+            return stopped(p, step_refusal(answer), n, at, x);
         };
         x = r.machine;
         n = next;

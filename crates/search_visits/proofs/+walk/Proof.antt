@@ -27,7 +27,7 @@ use Rattle.search_tries.proofs.next_try.Reads as next-try-reads
 use Rattle.search_tries.proofs.step_at.Reads as step-at-reads
 use Rattle.search_tries.proofs.threads.next_open.Reads as next-open-reads
 use Rattle.search_tries.proofs.tries_of.Reads as tries-of-reads
-use Rattle.search_visits.proofs.put_step.Reads as put-step-reads
+use Rattle.trace_record.proofs.put_step.Reads as put-step-reads
 use Rattle.search_visits.proofs.+walk.{statement}
 use Rattle.search_visits.proofs.+walk.Tie.{close}
 

@@ -4,8 +4,9 @@ use mathlib.Core.Path.{refl, sym, ap, _∙_}
 use Prim.Native.Nat.{_-_}
 use native.Mathlib.Omega.{arith}
 use borrow.Author.Needs.{needs}
+use borrow.Author.Tests.{not-true, not-false}
 use Rattle.trace_replay.specs.Answers.{replayed}
-use Rattle.trace_replay.proofs.Records.{Replaying, begins, at-end, cut, full, first-mark, second-mark, step-refused, step-taken}
+use Rattle.trace_replay.proofs.Records.{Replaying, begins, at-end, cut, full, unmarked, step-refused, step-taken}
 use Rattle.trace_replay.proofs.replay_from.Statement.{statement}
 use Rattle.trace_replay.proofs.replay_from.Tie as tie
 
@@ -19,106 +20,63 @@ loop-holds : tie.Need-loop-holds Inv-loop μ-loop
 loop-holds c = begins _ _ _ _ (c .before .pre) (omega arith) (omega arith)
 
 mul-at : tie.Need-mul-at Inv-loop μ-loop
-mul-at c = let i = c .before .loop .inv in let w = i .whole in search needs
+mul-at c = let w = c .before .loop .inv .whole in search needs
 
-add-next : tie.Need-add-next Inv-loop μ-loop
-add-next c = search needs
-
-shared-slice-read-if1 : tie.Need-shared-slice-read-if1 Inv-loop μ-loop
-shared-slice-read-if1 c = let b = c .before in let w = full _ _ _ _ (b .before .loop .inv) (b .loop-test .taken) in omega arith
-
-stopped-requires : tie.Need-stopped-requires Inv-loop μ-loop
-stopped-requires c κs = refl
+marked-at-requires : tie.Need-marked-at-requires Inv-loop μ-loop
+marked-at-requires c κs = full _ _ _ _ (c .before .loop .inv) (c .loop-test .taken)
 
 returns : tie.Need-returns Inv-loop μ-loop
 returns c =
     let b = c .before in
-    let l = b .before .before in
-    c .stopped .ensures ∙ ap (replayed _) (sym (first-mark _ _ _ _ (l .before .loop .inv) (l .loop-test .taken) (b .if1 .taken)))
+    let m = b .before in
+    let l = m .before in
+    c .stopped .ensures
+    ∙ ap (replayed _) (sym (unmarked _ _ _ _ (l .before .loop .inv) (l .loop-test .taken) (sym (m .marked-at .ensures) ∙ not-true _ (b .if1 .taken))))
 
-add-if2 : tie.Need-add-if2 Inv-loop μ-loop
-add-if2 c = search needs
+step-at-requires : tie.Need-step-at-requires Inv-loop μ-loop
+step-at-requires c κs = full _ _ _ _ (c .before .before .before .loop .inv) (c .before .before .loop-test .taken)
 
-shared-slice-read-if2 : tie.Need-shared-slice-read-if2 Inv-loop μ-loop
-shared-slice-read-if2 c = let l = c .before .before .before in let w = full _ _ _ _ (l .before .loop .inv) (l .loop-test .taken) in omega arith
-
-stopped-requires-2 : tie.Need-stopped-requires-2 Inv-loop μ-loop
-stopped-requires-2 c κs = refl
+rule-step-requires : tie.Need-rule-step-requires Inv-loop μ-loop
+rule-step-requires c κs = c .before .before .before .before .loop .inv .well
 
 returns-2 : tie.Need-returns-2 Inv-loop μ-loop
 returns-2 c =
-    let b = c .before in
-    let f = b .before .before in
-    let l = f .before .before in
-    c .stopped2 .ensures ∙ ap (replayed _) (sym (second-mark _ _ _ _ (l .before .loop .inv) (l .loop-test .taken) (f .if1 .left) (b .if2 .taken)))
-
-step-at-requires : tie.Need-step-at-requires Inv-loop μ-loop
-step-at-requires c κs = let l = c .before .before .before .before in full _ _ _ _ (l .before .loop .inv) (l .loop-test .taken)
-
-rule-step-requires : tie.Need-rule-step-requires Inv-loop μ-loop
-rule-step-requires c κs = c .before .before .before .before .before .before .loop .inv .well
-
-enum-told : tie.Need-enum-told Inv-loop μ-loop
-enum-told c = search needs
-
-enum-told-2 : tie.Need-enum-told-2 Inv-loop μ-loop
-enum-told-2 c = search needs
-
-refusal-requires : tie.Need-refusal-requires Inv-loop μ-loop
-refusal-requires c κs = search needs
-
-stopped-requires-3 : tie.Need-stopped-requires-3 Inv-loop μ-loop
-stopped-requires-3 c κs = refl
-
-returns-3 : tie.Need-returns-3 Inv-loop μ-loop
-returns-3 c =
     let a = c .before in
     let g = a .before in
-    let rr = g .before .before in
-    let st = rr .before in
-    let th = st .before in
-    let f = th .before .before in
-    let l = f .before .before in
-    c .stopped3 .ensures
-    ∙ ap (replayed _) (sym (step-refused _ _ _ _ (l .before .loop .inv) (l .loop-test .taken) (f .if1 .left) (th .if2 .left) _ (st .step-at .ensures) _ (rr .rule-step .ensures) _ _ (a .refusal .ensures) (g .enum-told2 .given .1)))
-
-loop-less : tie.Need-loop-less Inv-loop μ-loop
-loop-less c = search needs
+    let r = g .before .before in
+    let s = r .before in
+    let b = s .before in
+    let m = b .before in
+    let l = m .before in
+    c .stopped2 .ensures
+    ∙ ap (replayed _) (sym (step-refused _ _ _ _ (l .before .loop .inv) (l .loop-test .taken) (sym (m .marked-at .ensures) ∙ not-false _ (b .if1 .left)) _ (s .step-at .ensures) _ (r .rule-step .ensures) _ _ (a .step-refusal .ensures) (g .enum-told2 .given .1)))
 
 loop-again : tie.Need-loop-again Inv-loop μ-loop
 loop-again c =
     let g = c .before in
-    let rr = g .before .before in
-    let st = rr .before in
-    let th = st .before in
-    let f = th .before .before in
-    let l = f .before .before in
-    step-taken _ _ _ _ (l .before .loop .inv) (l .loop-test .taken) (f .if1 .left) (th .if2 .left) _ (st .step-at .ensures) _ (rr .rule-step .ensures) (g .enum-told .given .1)
+    let r = g .before .before in
+    let s = r .before in
+    let b = s .before in
+    let m = b .before in
+    let l = m .before in
+    step-taken _ _ _ _ (l .before .loop .inv) (l .loop-test .taken) (sym (m .marked-at .ensures) ∙ not-false _ (b .if1 .left)) _ (s .step-at .ensures) _ (r .rule-step .ensures) (g .enum-told .given .1)
 
-mul-stopped : tie.Need-mul-stopped Inv-loop μ-loop
-mul-stopped c = search needs
-
-stopped-requires-4 : tie.Need-stopped-requires-4 Inv-loop μ-loop
-stopped-requires-4 c κs = refl
-
-returns-4 : tie.Need-returns-4 Inv-loop μ-loop
-returns-4 c =
-    let b = c .before in
-    let l = b .before in
-    let w = l .before .loop .inv .whole in
-    let e = b .if3 .taken in
-    c .stopped4 .ensures ∙ ap (replayed _) (sym (cut _ _ _ _ (l .before .loop .inv) (l .loop-test .left) (omega arith)))
+returns-3 : tie.Need-returns-3 Inv-loop μ-loop
+returns-3 c =
+    let i = c .before .before .before .loop .inv in
+    let w = i .whole in
+    let e = c .before .if2 .taken in
+    c .stopped3 .ensures ∙ ap (replayed _) (sym (cut _ _ _ _ i (c .before .before .loop-test .left) (omega arith)))
 
 finished-requires : tie.Need-finished-requires Inv-loop μ-loop
 finished-requires c κs = c .before .before .loop .inv .well
 
-returns-5 : tie.Need-returns-5 Inv-loop μ-loop
-returns-5 c =
-    let b = c .before in
-    let l = b .before in
-    let w = l .before .loop .inv .last in
-    let e = b .if3 .left in
-    c .finished .ensures ∙ ap (replayed _) (sym (at-end _ _ _ _ (l .before .loop .inv) (l .loop-test .left) (omega arith)))
+returns-4 : tie.Need-returns-4 Inv-loop μ-loop
+returns-4 c =
+    let i = c .before .before .before .loop .inv in
+    let w = i .last in
+    let e = c .before .if2 .left in
+    c .finished .ensures ∙ ap (replayed _) (sym (at-end _ _ _ _ i (c .before .before .loop-test .left) (omega arith)))
 
 pub replay-from-spec : {M : Type 1} → statement M
 replay-from-spec =
@@ -128,25 +86,21 @@ replay-from-spec =
     μ-loop
     loop-holds
     mul-at
-    add-next
-    shared-slice-read-if1
-    stopped-requires
+    (λ c. search needs)
+    marked-at-requires
+    (λ c κs. refl)
     returns
-    add-if2
-    shared-slice-read-if2
-    stopped-requires-2
-    returns-2
     step-at-requires
     rule-step-requires
-    enum-told
-    enum-told-2
-    refusal-requires
-    stopped-requires-3
-    returns-3
-    loop-less
+    (λ c. search needs)
+    (λ c. search needs)
+    (λ c κs. search needs)
+    (λ c κs. refl)
+    returns-2
+    (λ c. search needs)
     loop-again
-    mul-stopped
-    stopped-requires-4
-    returns-4
+    (λ c. search needs)
+    (λ c κs. refl)
+    returns-3
     finished-requires
-    returns-5)
+    returns-4)

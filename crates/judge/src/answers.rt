@@ -1,12 +1,14 @@
 // An answer printed as document 01 says: the verdict, the count, and a line for each step of the trace; or the refusal.
 ghost use Prim.Native.Nat.{_*_, _≤_};
 ghost use lib.ListN.{length};
-use cases_rows::byte;
-use cases_rows::count;
-use cases_rows::number;
-use cases_rows::text;
 use search::Answer;
 use search::Verdict;
+use step::TraceStep;
+use text::byte;
+use text::count;
+use text::number;
+use text::text;
+use trace_record::step_at;
 
 fn verdict(name: &[u8], n: u64) {
     text(b"verdict ");
@@ -25,27 +27,26 @@ fn refused(refusal: u8, place: usize) {
 }
 
 // Promise: thread, location, value. Execute: thread, time.
-fn step(kind: u8, thread: u8, a: u8, b: u8) {
-    if kind == 1 {
+fn step(k: TraceStep) {
+    if k.kind == 1 {
         text(b"promise");
-        number(b' ', thread);
-        number(b' ', a);
-        number(b' ', b);
+        number(b' ', k.thread);
+        number(b' ', k.a);
+        number(b' ', k.b);
     } else {
         text(b"execute");
-        number(b' ', thread);
-        number(b' ', a);
+        number(b' ', k.thread);
+        number(b' ', k.a);
     }
     byte(b'\n');
 }
 
-// The first n steps of the trace, six bytes each: the mark, kind, thread, a and b.
+// The first n steps of the trace.
 fn steps(trace: &[u8], n: usize)
     requires { ⌜ 6 * n ≤ length (now trace) ⌝ }
 {
     for k in 0..n {
-        let at = 6 * k;
-        step(trace[at + 2], trace[at + 3], trace[at + 4], trace[at + 5]);
+        step(step_at(trace, 6 * k));
     }
 }
 

@@ -1,9 +1,9 @@
--- `judging::judge_file` meets its contract.
+-- `judge::judge_file` meets its contract.
 -- Assumes nothing.
-use Rattle.judging.proofs.Room.{steps-fit}
+use Rattle.judge.proofs.Room.{steps-fit}
 use borrow.Author.Needs.{needs}
-use Rattle.judging.proofs.judge_file.Statement.{statement}
-use Rattle.judging.proofs.judge_file.Tie as tie
+use Rattle.judge.proofs.judge_file.Statement.{statement}
+use Rattle.judge.proofs.judge_file.Tie as tie
 
 answer-requires : tie.Need-answer-requires
 answer-requires c κs = steps-fit (c .before .before .before .search-within .ensures .searched)

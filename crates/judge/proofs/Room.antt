@@ -9,12 +9,12 @@ use lib.Dec.{ltb}
 use lib.ListN.{length, drop, length-append}
 use Rattle.program.specs.File.{FileAnswer, refused, program, readFile}
 use Rattle.step.specs.Step.{Step}
-use Rattle.step.specs.Trace.{traceBytes}
+use Rattle.trace_record.specs.Trace.{traceBytes}
 use Rattle.theory_sequences.specs.Answer as sequences
 use Rattle.search_sequences.specs.OfProgram.{answerTo}
 use Rattle.search.specs.declared.Answer.{Answer}
 use Rattle.search.specs.Answers.{answerOf, areaOf, refusal, answerOn, areaOn, Searched}
-use Rattle.search_arrivals.proofs.Telling.{trace-length}
+use Rattle.trace_record.proofs.Writing.{trace-length}
 
 on-program : (a : sequences.Answer Step) (area : List ℕ) → 6 * (answerOf a) .steps ≤ length (areaOf a area)
 on-program (sequences.allowed n q) area =
