@@ -2,7 +2,7 @@
 // about that file.
 ghost use Prim.Native.Nat.{_≤_};
 ghost use lib.ListN.{length};
-ghost use Rattle.cases_rows.specs.Row.{Within};
+ghost use Rattle.cases_rows.specs.Row.{RowWithin};
 use crate::file::File;
 use crate::file::add;
 use crate::find;
@@ -28,7 +28,7 @@ fn is_row(s: &[u8]) -> bool {
 // The first row from `from` on, after rows about the file f. Where there is none, `next` is `at`.
 pub fn row_from(f: File, s: &[u8], from: usize) -> Row
     requires { ⌜ from ≤ length (now s) ⌝ }
-    ensures { λ r. ⌜ (from ≤ r .at) × Within (length (now (s .entry))) r ⌝ }
+    ensures { λ r. ⌜ (from ≤ r .at) × RowWithin (length (now (s .entry))) r ⌝ }
 {
     let mut g = f;
     let mut at = from;
