@@ -15,10 +15,14 @@ returns : tie.Need-returns
 returns c = store-late _ _ _ _ _ _ _ _ _ (c .before .before .before .before .x .given .1) (let e = c .before .before .store-pre .ensures in let l = c .if1 .taken in omega arith)
 
 returns-2 : tie.Need-returns-2
-returns-2 c = let f = and-not _ _ (c .before .before .before .before .before .before .unwritten .ensures) (c .before .before .before .marked .ensures .1) (c .before .before .if2 .taken) in store-elsewhere _ _ _ _ _ _ _ _ _ (c .before .before .before .before .before .before .before .before .before .before .before .x .given .1) (f .0) (λ m. f .1 (subst (Marked (c .before .before .before .before .before .before .before .before .before .before .before .before .before .args .w .places)) (sym (c .before .before .before .before .address .ensures .0 ∙ ap address (c .before .before .before .before .before .value-of .ensures))) m)) _ (c .before .barring .ensures) _ (c .noting .ensures)
+returns-2 c =
+    let early = c .before .before .before .before in
+    let f = and-not _ _ (early .before .before .unwritten .ensures) (c .before .before .before .marked .ensures .1) (c .before .before .if2 .taken) in store-elsewhere _ _ _ _ _ _ _ _ _ (early .before .before .before .before .before .before .before .x .given .1) (f .0) (λ m. f .1 (subst (Marked (early .before .before .before .before .before .before .before .before .before .args .w .places)) (sym (early .address .ensures .0 ∙ ap address (early .before .value-of .ensures))) m)) _ (c .before .barring .ensures) _ (c .noting .ensures)
 
 returns-3 : tie.Need-returns-3
-returns-3 c = store-other _ _ _ _ _ _ _ _ _ (c .before .before .before .before .before .before .before .before .before .before .before .before .before .before .x .given .1) _ _ (λ t. let f = and-not _ _ (c .before .before .before .unwritten2 .ensures) (c .before .before .in-range .ensures) t in (f .0, λ m. f .1 (subst (InRange (c .before .before .before .before .before .before .before .before .before .before .before .before .before .before .before .before .args .w)) (sym (c .before .before .before .before .value-of2 .ensures)) m))) (rw (c .before .before .before .before .value-of2 .ensures) at (c .before .out-of-range .ensures)) _ (c .noting2 .ensures)
+returns-3 c =
+    let early = c .before .before .before .before in
+    store-other _ _ _ _ _ _ _ _ _ (early .before .before .before .before .before .before .before .before .before .before .x .given .1) _ _ (λ t. let f = and-not _ _ (c .before .before .before .unwritten2 .ensures) (c .before .before .in-range .ensures) t in (f .0, λ m. f .1 (subst (InRange (early .before .before .before .before .before .before .before .before .before .before .before .before .args .w)) (sym (early .value-of2 .ensures)) m))) (rw (early .value-of2 .ensures) at (c .before .out-of-range .ensures)) _ (c .noting2 .ensures)
 
 pub barred-spec : {M : Type 1} → statement M
 barred-spec =

@@ -51,7 +51,9 @@ loop-less : tie.Need-loop-less Inv-loop μ-loop
 loop-less c = let l = c .before .before .before .before .before .before .if1 .taken in omega arith
 
 loop-again : tie.Need-loop-again Inv-loop μ-loop
-loop-again c = passed-more _ _ _ _ _ _ _ _ (c .before .before .before .before .before .before .before .before .loop .inv) _ (c .before .before .before .before .before .instr-at .ensures) (c .before .before .before .if2 .rests) (⊎-elim (λ z. certainly _ _ _ _ _ _ _ (not-false _ (z .3 .left)) (z .1 .ensures) _ (z .5)) (λ z. certainly _ _ _ _ _ _ _ refl (no-store _ _ _ _ _ _ (c .before .before .before .before .is-store .ensures (z .0 .left))) _ (z .1)) (c .before .before .before .if2 .came)) _ (c .before .before .passing .ensures) _ (c .before .written .ensures) _ (c .farther .ensures)
+loop-again c =
+    let early = c .before .before .before .before in
+    passed-more _ _ _ _ _ _ _ _ (early .before .before .before .before .loop .inv) _ (early .before .instr-at .ensures) (c .before .before .before .if2 .rests) (⊎-elim (λ z. certainly _ _ _ _ _ _ _ (not-false _ (z .3 .left)) (z .1 .ensures) _ (z .5)) (λ z. certainly _ _ _ _ _ _ _ refl (no-store _ _ _ _ _ _ (early .is-store .ensures (z .0 .left))) _ (z .1)) (c .before .before .before .if2 .came)) _ (c .before .before .passing .ensures) _ (c .before .written .ensures) _ (c .farther .ensures)
 
 returns-2 : tie.Need-returns-2 Inv-loop μ-loop
 returns-2 c = λ e. passed-all _ _ _ _ _ _ _ _ (c .before .before .loop .inv) (c .if1 .left)

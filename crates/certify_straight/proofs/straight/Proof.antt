@@ -20,12 +20,13 @@ abbrev μ-loop : tie.MeasureT-loop
 turn-at : (c : tie.After-step-over Inv-loop μ-loop)
     → Turn (c .before .before .before .before .before .before .before .before .before .before .before .before .before .before .before .before .args .t1) (c .before .before .before .before .before .before .before .before .before .before .before .before .before .before .before .before .args .s) (c .before .before .before .before .before .before .before .before .before .before .before .before .loop .registers) (c .before .before .before .before .before .before .before .before .before .before .before .before .loop .n) (c .before .before .before .before .before .before .before .before .before .before .before .before .loop .views) (c .before .before .before .before .before .before .before .before .before .before .before .before .loop .steps) (c .before .before .before .before .before .before .before .before .before .before .before .before .loop .count) (c .before .before .before .before .operand-in .result) (c .before .operand-in2 .result) (c .step-over .result)
 turn-at c =
+    let early = c .before .before .before .before in
     record {
       tells = c .step-over .ensures;
-      on = c .before .before .before .before .before .before .before .before .before .before .before .before .loop .inv;
-      inside = c .before .before .before .before .before .before .before .before .before .before .before .loop-test .taken;
-      short = c .before .before .before .before .before .before .before .before .before .before .before .before .before .before .before .before .pre .short;
-      first-found = c .before .before .before .before .operand-in .ensures;
+      on = early .before .before .before .before .before .before .before .before .loop .inv;
+      inside = early .before .before .before .before .before .before .before .loop-test .taken;
+      short = early .before .before .before .before .before .before .before .before .before .before .before .before .pre .short;
+      first-found = early .operand-in .ensures;
       second-found = c .before .operand-in2 .ensures;
     }
 
@@ -105,7 +106,9 @@ loop-less : tie.Need-loop-less Inv-loop μ-loop
 loop-less c = let l = c .before .before .before .before .before .before .before .before .before .before .before .before .before .before .before .before .before .loop-test .taken in let s = c .before .before .before .before .before .before .before .before .before .before .before .before .before .before .before .before .before .before .before .before .before .before .pre .short in omega arith
 
 loop-again : tie.Need-loop-again Inv-loop μ-loop
-loop-again c = turn-compute (turn-at (c .before .before .before .before .before .before)) (c .before .before .before .before .if2 .taken) _ (c .before .computed .ensures)
+loop-again c =
+    let early = c .before .before .before .before in
+    turn-compute (turn-at (early .before .before)) (early .if2 .taken) _ (c .before .computed .ensures)
 
 loop-less-2 : tie.Need-loop-less-2 Inv-loop μ-loop
 loop-less-2 c = let l = c .before .before .before .before .before .before .before .before .before .before .before .before .before .before .before .loop-test .taken in let s = c .before .before .before .before .before .before .before .before .before .before .before .before .before .before .before .before .before .before .before .before .pre .short in omega arith
@@ -141,7 +144,9 @@ add-t51 : tie.Need-add-t51 Inv-loop μ-loop
 add-t51 c = let h = turn-lands (turn-at (c .before .before .before .before .before .before .before .before .before .before .before)) (c .before .before .before .before .before .before .before .before .before .before .before .before .before .before .before .before .before .before .before .before .before .before .before .before .before .before .before .pre) (c .before .before .before .before .before .before .before .if4 .taken) in let p = c .before .before .before .before .before .before .passed .ensures .1 .1 in omega arith
 
 returns-2 : tie.Need-returns-2 Inv-loop μ-loop
-returns-2 c = turn-fork (turn-at (c .before .before .before .before .before .before .before .before .before .before .before)) (c .before .before .before .before .before .before .before .if4 .taken) _ (c .before .before .before .before .before .before .passed .ensures .1 .0) (c .before .before .before .before .before .before .passed .ensures .0) _ (rw (c .before .before .before .before .raise-cap .ensures, c .before .before .before .before .before .larger .ensures) refl) (c .before .before .before .before .before .before .passed .ensures .1 .1) _ (c .before .standing2 .ensures) _ refl
+returns-2 c =
+    let early = c .before .before .before .before in
+    turn-fork (turn-at (early .before .before .before .before .before .before .before)) (early .before .before .before .if4 .taken) _ (early .before .before .passed .ensures .1 .0) (early .before .before .passed .ensures .0) _ (rw (early .raise-cap .ensures, early .before .larger .ensures) refl) (early .before .before .passed .ensures .1 .1) _ (c .before .standing2 .ensures) _ refl
 
 add-n-2 : tie.Need-add-n-2 Inv-loop μ-loop
 add-n-2 c = let h = turn-lands (turn-at (c .before .before .before .before .before .before .before .before .before)) (c .before .before .before .before .before .before .before .before .before .before .before .before .before .before .before .before .before .before .before .before .before .before .before .before .before .pre) (c .before .before .before .before .before .if4 .taken) in let p = c .before .before .before .before .passed .ensures .1 .1 in omega arith
@@ -150,7 +155,9 @@ loop-less-3 : tie.Need-loop-less-3 Inv-loop μ-loop
 loop-less-3 c = let l = c .before .before .before .before .before .before .before .before .before .before .before .before .before .before .before .before .before .before .before .before .loop-test .taken in let s = c .before .before .before .before .before .before .before .before .before .before .before .before .before .before .before .before .before .before .before .before .before .before .before .before .before .pre .short in let z = c .before .before .before .before .passed .ensures .1 .0 in omega arith
 
 loop-again-3 : tie.Need-loop-again-3 Inv-loop μ-loop
-loop-again-3 c = turn-branch (turn-at (c .before .before .before .before .before .before .before .before .before)) (c .before .before .before .before .before .if4 .taken) _ (c .before .before .before .before .passed .ensures .1 .0) (c .before .before .before .before .passed .ensures .0) _ (rw (c .before .before .raise-cap .ensures, c .before .before .before .larger .ensures) refl)
+loop-again-3 c =
+    let early = c .before .before .before .before in
+    turn-branch (turn-at (early .before .before .before .before .before)) (early .before .if4 .taken) _ (early .passed .ensures .1 .0) (early .passed .ensures .0) _ (rw (c .before .before .raise-cap .ensures, c .before .before .before .larger .ensures) refl)
 
 add-n-3 : tie.Need-add-n-3 Inv-loop μ-loop
 add-n-3 c = let l = c .before .before .before .before .before .before .before .before .before .before .before .before .before .before .before .loop-test .taken in let s = c .before .before .before .before .before .before .before .before .before .before .before .before .before .before .before .before .before .before .before .before .pre .short in omega arith
@@ -162,7 +169,9 @@ loop-less-4 : tie.Need-loop-less-4 Inv-loop μ-loop
 loop-less-4 c = let l = c .before .before .before .before .before .before .before .before .before .before .before .before .before .before .before .before .loop-test .taken in let s = c .before .before .before .before .before .before .before .before .before .before .before .before .before .before .before .before .before .before .before .before .before .pre .short in omega arith
 
 loop-again-4 : tie.Need-loop-again-4 Inv-loop μ-loop
-loop-again-4 c = turn-fence (turn-at (c .before .before .before .before .before)) (op-rest _ (c .before .before .before .before .before .before .before .before .before .before .before .before .if1 .left) (c .before .before .before .if2 .left) (c .before .if4 .left)) _ (c .fenced .ensures)
+loop-again-4 c =
+    let early = c .before .before .before .before .before in
+    turn-fence (turn-at (early)) (op-rest _ (early .before .before .before .before .before .before .before .if1 .left) (c .before .before .before .if2 .left) (c .before .if4 .left)) _ (c .fenced .ensures)
 
 standing-requires-3 : tie.Need-standing-requires-3 Inv-loop μ-loop
 standing-requires-3 c κs = tt

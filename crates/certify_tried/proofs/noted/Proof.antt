@@ -8,7 +8,9 @@ use Rattle.certify_tried.proofs.noted.Statement.{statement}
 use Rattle.certify_tried.proofs.noted.Tie as tie
 
 returns : tie.Need-returns
-returns c = noted-load _ _ _ _ _ _ _ _ _ _ (c .before .before .before .before .before .before .x .given .1) _ (c .before .before .before .before .of-register .ensures) (c .before .before .forgetting .result) (c .before .before .forgetting .ensures) _ (c .before .and .ensures)
+returns c =
+    let early = c .before .before .before .before in
+    noted-load _ _ _ _ _ _ _ _ _ _ (early .before .before .x .given .1) _ (early .of-register .ensures) (c .before .before .forgetting .result) (c .before .before .forgetting .ensures) _ (c .before .and .ensures)
 
 returns-2 : tie.Need-returns-2
 returns-2 c = noted-store _ _ _ _ _ _ _ _ _ (c .before .before .enum-told .given .1) _ (c .and2 .ensures)

@@ -32,7 +32,9 @@ loop-less : tie.Need-loop-less Inv-loop μ-loop
 loop-less c = let h = c .before .before .before .before .before .before .before .before .before .pre .0 in let l = c .before .before .before .before .before .if1 .taken in let k = c .after2 .ensures .later in omega arith
 
 loop-again : tie.Need-loop-again Inv-loop μ-loop
-loop-again c = kept-next _ _ _ _ _ _ _ (c .before .before .before .before .before .before .before .loop .inv) _ (c .before .before .before .before .message-at .ensures) (c .before .if2 .left) (c .after2 .ensures)
+loop-again c =
+    let early = c .before .before .before .before in
+    kept-next _ _ _ _ _ _ _ (early .before .before .before .loop .inv) _ (early .message-at .ensures) (c .before .if2 .left) (c .after2 .ensures)
 
 returns-2 : tie.Need-returns-2 Inv-loop μ-loop
 returns-2 c = kept-none _ _ _ _ _ _ (c .before .before .before .before .pre .1) (c .before .before .loop .inv) (c .if1 .left)

@@ -17,11 +17,15 @@ returns-2 c = rw (le-leb _ _ (c .before .before .if1 .left), sym (c .before .thr
 
 returns-3 : tie.Need-returns-3
 unfolding firstFailing
-returns-3 c = rw (le-leb _ _ (c .before .before .before .before .before .if1 .left), sym (c .before .before .before .before .thread-ok .ensures) ∙ not-false _ (c .before .before .before .if2 .left), ← c .before .before .index-limit .ensures, lt-leb _ _ (c .if3 .taken))
+returns-3 c =
+    let early = c .before .before .before .before in
+    rw (le-leb _ _ (early .before .if1 .left), sym (early .thread-ok .ensures) ∙ not-false _ (c .before .before .before .if2 .left), ← c .before .before .index-limit .ensures, lt-leb _ _ (c .if3 .taken))
 
 returns-4 : tie.Need-returns-4
 unfolding firstFailing
-returns-4 c = rw (le-leb _ _ (c .before .before .before .before .before .if1 .left), sym (c .before .before .before .before .thread-ok .ensures) ∙ not-false _ (c .before .before .before .if2 .left), ← c .before .before .index-limit .ensures, le-leb _ _ (c .if3 .left))
+returns-4 c =
+    let early = c .before .before .before .before in
+    rw (le-leb _ _ (early .before .if1 .left), sym (early .thread-ok .ensures) ∙ not-false _ (c .before .before .before .if2 .left), ← c .before .before .index-limit .ensures, le-leb _ _ (c .if3 .left))
 
 pub condition-fault-spec : {M : Type 1} → statement M
 condition-fault-spec =

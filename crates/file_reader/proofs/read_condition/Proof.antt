@@ -14,10 +14,14 @@ condition-at-requires : tie.Need-condition-at-requires
 condition-at-requires c κs = omega (arith, fault-fits _ _ _ _ _ _ (c .before .fault .ensures) (c .if1 .left))
 
 returns-2 : tie.Need-returns-2
-returns-2 c = as-read (c .stop2 .ensures) (condition-8 _ _ _ _ _ _ (c .before .before .before .before .before .fault .ensures) (c .before .before .before .before .if1 .left) _ (c .before .before .before .condition-at .ensures) _ (c .before .before .condition-fault .ensures) (c .before .if2 .taken))
+returns-2 c =
+    let early = c .before .before .before .before in
+    as-read (c .stop2 .ensures) (condition-8 _ _ _ _ _ _ (early .before .fault .ensures) (early .if1 .left) _ (c .before .before .before .condition-at .ensures) _ (c .before .before .condition-fault .ensures) (c .before .if2 .taken))
 
 returns-3 : tie.Need-returns-3
-returns-3 c = as-read (c .go-on .ensures) (condition-on _ _ _ _ _ _ (c .before .before .before .before .before .before .fault .ensures) (c .before .before .before .before .before .if1 .left) _ (c .before .before .before .before .condition-at .ensures) _ (c .before .before .before .condition-fault .ensures) (c .before .before .if2 .left) _ (c .before .with-condition .ensures))
+returns-3 c =
+    let early = c .before .before .before .before in
+    as-read (c .go-on .ensures) (condition-on _ _ _ _ _ _ (early .before .before .fault .ensures) (early .before .if1 .left) _ (early .condition-at .ensures) _ (c .before .before .before .condition-fault .ensures) (c .before .before .if2 .left) _ (c .before .with-condition .ensures))
 
 pub read-condition-spec : {M : Type 1} → statement M
 read-condition-spec =

@@ -20,13 +20,19 @@ shared-slice-read-n : tie.Need-shared-slice-read-n
 shared-slice-read-n c = omega (arith, fault-fits _ _ _ _ _ _ (c .before .before .before .before .fault .ensures) (c .before .before .before .if1 .left))
 
 returns-3 : tie.Need-returns-3
-returns-3 c = as-read (c .stop3 .ensures) (header-none _ _ (c .before .before .before .before .before .before .fault .ensures) (c .before .before .before .before .before .if1 .left) (c .before .before .before .if2 .left) (c .before .if3 .taken))
+returns-3 c =
+    let early = c .before .before .before .before .before in
+    as-read (c .stop3 .ensures) (header-none _ _ (early .before .fault .ensures) (early .if1 .left) (c .before .before .before .if2 .left) (c .before .if3 .taken))
 
 returns-4 : tie.Need-returns-4
-returns-4 c = as-read (c .stop4 .ensures) (header-many _ _ (c .before .before .before .before .before .before .before .fault .ensures) (c .before .before .before .before .before .before .if1 .left) (c .before .before .before .before .if2 .left) (c .before .before .if3 .left) (c .before .if4 .taken))
+returns-4 c =
+    let early = c .before .before .before .before in
+    as-read (c .stop4 .ensures) (header-many _ _ (early .before .before .before .fault .ensures) (early .before .before .if1 .left) (early .if2 .left) (c .before .before .if3 .left) (c .before .if4 .taken))
 
 returns-5 : tie.Need-returns-5
-returns-5 c = as-read (c .go-on .ensures) (header-on _ _ (c .before .before .before .before .before .before .before .before .fault .ensures) (c .before .before .before .before .before .before .before .if1 .left) (c .before .before .before .before .before .if2 .left) (c .before .before .before .if3 .left) (c .before .before .if4 .left) _ (c .before .with-header .ensures))
+returns-5 c =
+    let early = c .before .before .before .before .before in
+    as-read (c .go-on .ensures) (header-on _ _ (early .before .before .before .fault .ensures) (early .before .before .if1 .left) (early .if2 .left) (c .before .before .before .if3 .left) (c .before .before .if4 .left) _ (c .before .with-header .ensures))
 
 pub read-header-spec : {M : Type 1} → statement M
 read-header-spec =

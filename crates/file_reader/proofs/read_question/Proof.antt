@@ -29,7 +29,9 @@ add-stop : tie.Need-add-stop
 add-stop c = omega (arith, going-in _ _ _ _ (c .before .before .before .before .before .before .before .before .pre) (c .before .before .before .before .before .g .given .1), fault-fits _ _ _ _ _ _ (c .before .before .before .fault .ensures) (c .before .before .if1 .left))
 
 returns-3 : tie.Need-returns-3
-returns-3 c = as-read (c .stop2 .ensures) (ap (readQuestion _) (going-is _ _ _ (c .before .before .before .before .before .before .g .given .1)) ∙ question-8 _ _ _ _ _ (c .before .before .before .before .fault .ensures) (c .before .before .before .if1 .left) (c .before .if2 .taken))
+returns-3 c =
+    let early = c .before .before .before .before in
+    as-read (c .stop2 .ensures) (ap (readQuestion _) (going-is _ _ _ (early .before .before .g .given .1)) ∙ question-8 _ _ _ _ _ (early .fault .ensures) (c .before .before .before .if1 .left) (c .before .if2 .taken))
 
 add-read-conditions : tie.Need-add-read-conditions
 add-read-conditions c = omega (arith, going-in _ _ _ _ (c .before .before .before .before .before .before .before .before .pre) (c .before .before .before .before .before .g .given .1), fault-fits _ _ _ _ _ _ (c .before .before .before .fault .ensures) (c .before .before .if1 .left))
@@ -42,7 +44,9 @@ read-conditions-requires c κs =
     (omega (arith, c .before .if2 .left), record { place = omega arith; stores = w .stores; threads = omega arith })
 
 returns-4 : tie.Need-returns-4
-returns-4 c = as-read (c .read-conditions .ensures) (ap (readQuestion _) (going-is _ _ _ (c .before .before .before .before .before .before .before .g .given .1)) ∙ question-on _ _ _ _ _ (c .before .before .before .before .before .fault .ensures) (c .before .before .before .before .if1 .left) (c .before .before .if2 .left) _ (c .before .with-conditions .ensures))
+returns-4 c =
+    let early = c .before .before .before .before in
+    as-read (c .read-conditions .ensures) (ap (readQuestion _) (going-is _ _ _ (early .before .before .before .g .given .1)) ∙ question-on _ _ _ _ _ (early .before .fault .ensures) (early .if1 .left) (c .before .before .if2 .left) _ (c .before .with-conditions .ensures))
 
 pub read-question-spec : {M : Type 1} → statement M
 read-question-spec =

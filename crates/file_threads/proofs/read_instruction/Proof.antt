@@ -14,13 +14,19 @@ instruction-at-requires : tie.Need-instruction-at-requires
 instruction-at-requires c κs = omega (arith, fault-fits _ _ _ _ _ _ (c .before .fault .ensures) (c .if1 .left))
 
 returns-2 : tie.Need-returns-2
-returns-2 c = as-read (c .stop2 .ensures) (instruction-6 _ _ _ _ _ _ _ (c .before .before .before .before .before .before .fault .ensures) (c .before .before .before .before .before .if1 .left) _ (c .before .before .before .before .instruction-at .ensures) _ (c .before .before .before .code-of .ensures) _ (c .before .before .instruction-fault .ensures) (c .before .if2 .taken))
+returns-2 c =
+    let early = c .before .before .before .before in
+    as-read (c .stop2 .ensures) (instruction-6 _ _ _ _ _ _ _ (early .before .before .fault .ensures) (early .before .if1 .left) _ (early .instruction-at .ensures) _ (c .before .before .before .code-of .ensures) _ (c .before .before .instruction-fault .ensures) (c .before .if2 .taken))
 
 returns-3 : tie.Need-returns-3
-returns-3 c = as-read (c .stop3 .ensures) (instruction-7 _ _ _ _ _ _ _ (c .before .before .before .before .before .before .before .before .fault .ensures) (c .before .before .before .before .before .before .before .if1 .left) _ (c .before .before .before .before .before .before .instruction-at .ensures) _ (c .before .before .before .before .before .code-of .ensures) _ (c .before .before .before .before .instruction-fault .ensures) (c .before .before .before .if2 .left) _ (c .before .before .one-store .ensures) (c .before .if3 .taken))
+returns-3 c =
+    let early = c .before .before .before .before in
+    as-read (c .stop3 .ensures) (instruction-7 _ _ _ _ _ _ _ (early .before .before .before .before .fault .ensures) (early .before .before .before .if1 .left) _ (early .before .before .instruction-at .ensures) _ (early .before .code-of .ensures) _ (early .instruction-fault .ensures) (c .before .before .before .if2 .left) _ (c .before .before .one-store .ensures) (c .before .if3 .taken))
 
 returns-4 : tie.Need-returns-4
-returns-4 c = as-read (c .go-on .ensures) (instruction-on _ _ _ _ _ _ _ (c .before .before .before .before .before .before .before .before .before .fault .ensures) (c .before .before .before .before .before .before .before .before .if1 .left) _ (c .before .before .before .before .before .before .before .instruction-at .ensures) _ (c .before .before .before .before .before .before .code-of .ensures) _ (c .before .before .before .before .before .instruction-fault .ensures) (c .before .before .before .before .if2 .left) _ (c .before .before .before .one-store .ensures) (c .before .before .if3 .left) _ (c .before .with-instruction .ensures))
+returns-4 c =
+    let early = c .before .before .before .before in
+    as-read (c .go-on .ensures) (instruction-on _ _ _ _ _ _ _ (early .before .before .before .before .before .fault .ensures) (early .before .before .before .before .if1 .left) _ (early .before .before .before .instruction-at .ensures) _ (early .before .before .code-of .ensures) _ (early .before .instruction-fault .ensures) (early .if2 .left) _ (c .before .before .before .one-store .ensures) (c .before .before .if3 .left) _ (c .before .with-instruction .ensures))
 
 pub read-instruction-spec : {M : Type 1} → statement M
 read-instruction-spec =

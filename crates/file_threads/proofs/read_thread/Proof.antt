@@ -23,10 +23,14 @@ shared-slice-read-n : tie.Need-shared-slice-read-n
 shared-slice-read-n c = omega (arith, fault-fits _ _ _ _ _ _ (c .before .before .before .fault .ensures) (c .before .before .if1 .left))
 
 returns-2 : tie.Need-returns-2
-returns-2 c = as-read (c .stop2 .ensures) (thread-10 _ _ _ _ _ _ (c .before .before .before .before .before .fault .ensures) (c .before .before .before .before .if1 .left) (c .before .if2 .taken))
+returns-2 c =
+    let early = c .before .before .before .before in
+    as-read (c .stop2 .ensures) (thread-10 _ _ _ _ _ _ (early .before .fault .ensures) (early .if1 .left) (c .before .if2 .taken))
 
 returns-3 : tie.Need-returns-3
-returns-3 c = as-read (c .stop3 .ensures) (thread-5 _ _ _ _ _ _ (c .before .before .before .before .before .before .fault .ensures) (c .before .before .before .before .before .if1 .left) (c .before .before .if2 .left) (c .before .if3 .taken))
+returns-3 c =
+    let early = c .before .before .before .before .before in
+    as-read (c .stop3 .ensures) (thread-5 _ _ _ _ _ _ (early .before .fault .ensures) (early .if1 .left) (c .before .before .if2 .left) (c .before .if3 .taken))
 
 read-instructions-requires : tie.Need-read-instructions-requires
 read-instructions-requires c κs =
@@ -36,7 +40,9 @@ read-instructions-requires c κs =
     (omega (arith, c .before .before .before .before .before .before .before .before .pre .0, c .before .if3 .left), record { place = omega arith; stores = w .stores; threads = omega arith })
 
 returns-4 : tie.Need-returns-4
-returns-4 c = as-read (c .read-instructions .ensures) (thread-on _ _ _ _ _ _ (c .before .before .before .before .before .before .before .fault .ensures) (c .before .before .before .before .before .before .if1 .left) (c .before .before .before .if2 .left) (c .before .before .if3 .left) _ (c .before .with-count .ensures))
+returns-4 c =
+    let early = c .before .before .before .before .before .before in
+    as-read (c .read-instructions .ensures) (thread-on _ _ _ _ _ _ (early .before .fault .ensures) (early .if1 .left) (c .before .before .before .if2 .left) (c .before .before .if3 .left) _ (c .before .with-count .ensures))
 
 pub read-thread-spec : {M : Type 1} → statement M
 read-thread-spec =

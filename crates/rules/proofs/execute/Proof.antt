@@ -22,26 +22,30 @@ returns-2 c = rw (c .refused .ensures, c .before .before .before .x .given .1, n
 
 returns-3 : tie.Need-returns-3
 unfolding execute
-returns-3 c = rw (
-  c .load-at .ensures,
-  c .before .view-of-both .ensures,
-  c .before .before .address-of-sum .ensures .0,
-  c .before .before .before .value-of2 .ensures,
-  c .before .before .before .before .value-of .ensures,
-  c .before .before .before .before .before .before .x2 .given .1,
-)
+returns-3 c =
+    let early = c .before .before .before .before in
+    rw (
+      c .load-at .ensures,
+      c .before .view-of-both .ensures,
+      c .before .before .address-of-sum .ensures .0,
+      c .before .before .before .value-of2 .ensures,
+      early .value-of .ensures,
+      early .before .before .x2 .given .1,
+    )
 
 returns-4 : tie.Need-returns-4
 unfolding execute
-returns-4 c = rw (
-  c .store-at .ensures,
-  c .before .view-of2 .ensures,
-  c .before .before .view-of .ensures,
-  c .before .before .before .value-of4 .ensures,
-  c .before .before .before .before .address .ensures .0,
-  c .before .before .before .before .before .value-of3 .ensures,
-  c .before .before .before .before .before .before .before .x3 .given .1,
-)
+returns-4 c =
+    let early = c .before .before .before .before in
+    rw (
+      c .store-at .ensures,
+      c .before .view-of2 .ensures,
+      c .before .before .view-of .ensures,
+      c .before .before .before .value-of4 .ensures,
+      early .address .ensures .0,
+      early .before .value-of3 .ensures,
+      early .before .before .before .x3 .given .1,
+    )
 
 returns-5 : tie.Need-returns-5
 unfolding execute

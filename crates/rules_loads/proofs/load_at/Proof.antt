@@ -13,12 +13,14 @@ returns : tie.Need-returns
 returns c = rw (c .refused .ensures, load-26 _ _ _ _ _ _ _ (was-false (c .before .before .readable .ensures) (c .before .if1 .taken)))
 
 returns-2 : tie.Need-returns-2
-returns-2 c = let a = c .before .before .before .before .before .before .before .before .args in
-    let r = was-true (c .before .before .before .before .before .before .before .readable .ensures) (c .before .before .before .before .before .before .if1 .left) in
+returns-2 c =
+    let early = c .before .before .before .before in
+    let a = early .before .before .before .before .args in
+    let r = was-true (early .before .before .before .readable .ensures) (early .before .before .if1 .left) in
     let e = rw (
       c .before .before .before .larger .ensures,
-      c .before .before .before .before .coherence-at .ensures,
-      c .before .before .before .before .before .load-pre .ensures,
+      early .coherence-at .ensures,
+      early .before .load-pre .ensures,
     ) at (c .before .before .none-newer .ensures) in
     rw (c .refused2 .ensures, load-27 (a .k) (a .r) (a .m) (a .t) (a .l) (a .va) (a .s) r (was-false e (c .before .if2 .taken)))
 
@@ -28,20 +30,22 @@ load-done-requires c κs = let r = was-true (c .before .before .before .before .
     omega arith
 
 returns-3 : tie.Need-returns-3
-returns-3 c = let a = c .before .before .before .before .before .before .before .before .before .before .before .args in
-    let r = was-true (c .before .before .before .before .before .before .before .before .before .before .readable .ensures) (c .before .before .before .before .before .before .before .before .before .if1 .left) in
+returns-3 c =
+    let early = c .before .before .before .before in
+    let a = early .before .before .before .before .before .before .before .args in
+    let r = was-true (early .before .before .before .before .before .before .readable .ensures) (early .before .before .before .before .before .if1 .left) in
     let e = rw (
-      c .before .before .before .before .before .before .larger .ensures,
-      c .before .before .before .before .before .before .before .coherence-at .ensures,
-      c .before .before .before .before .before .before .before .before .load-pre .ensures,
-    ) at (c .before .before .before .before .before .none-newer .ensures) in
+      early .before .before .larger .ensures,
+      early .before .before .before .coherence-at .ensures,
+      early .before .before .before .before .load-pre .ensures,
+    ) at (early .before .none-newer .ensures) in
     rw (
       c .done .ensures,
-      load-next (a .k) (a .r) (a .m) (a .t) (a .l) (a .va) (a .s) r (was-true e (c .before .before .before .before .if2 .left)),
+      load-next (a .k) (a .r) (a .m) (a .t) (a .l) (a .va) (a .s) r (was-true e (early .if2 .left)),
       c .before .load-done .ensures,
       c .before .before .larger2 .ensures,
       c .before .before .before .read-view .ensures,
-      c .before .before .before .before .before .before .before .before .load-pre .ensures,
+      early .before .before .before .before .load-pre .ensures,
     )
 
 pub load-at-spec : {M : Type 1} → statement M

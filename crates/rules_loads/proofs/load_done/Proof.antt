@@ -6,14 +6,16 @@ use Rattle.rules_loads.proofs.load_done.Statement.{statement}
 use Rattle.rules_loads.proofs.load_done.Tie as tie
 
 returns : tie.Need-returns
-returns c = rw (
-  c .advance .ensures,
-  c .before .with-views .ensures,
-  c .before .before .raise-coherence .ensures,
-  c .before .before .before .with-register .ensures,
-  c .before .before .before .before .read-value .ensures,
-  c .before .before .before .before .before .load-views .ensures,
-)
+returns c =
+    let early = c .before .before .before .before in
+    rw (
+      c .advance .ensures,
+      c .before .with-views .ensures,
+      c .before .before .raise-coherence .ensures,
+      c .before .before .before .with-register .ensures,
+      early .read-value .ensures,
+      early .before .load-views .ensures,
+    )
 
 pub load-done-spec : {M : Type 1} → statement M
 load-done-spec =

@@ -23,16 +23,20 @@ message-at-requires c κs = let h = has-positive _ _ (subst T (sym (was-true (c 
 
 returns-3 : tie.Need-returns-3
 unfolding promised
-returns-3 c = simp (was-true (c .before .before .before .before .before .before .before .has .ensures) (c .before .before .before .before .before .before .if1 .left), le-leb _ _ (c .before .before .before .before .if2 .left), ← c .before .before .before .message-at .ensures, eq-eqb _ _ (c .before .if3 .taken))
+returns-3 c =
+    let early = c .before .before .before .before in
+    simp (was-true (early .before .before .before .has .ensures) (early .before .before .if1 .left), le-leb _ _ (early .if2 .left), ← c .before .before .before .message-at .ensures, eq-eqb _ _ (c .before .if3 .taken))
 
 returns-4 : tie.Need-returns-4
 unfolding promised
-returns-4 c = simp (
-  was-true (c .before .before .before .before .before .before .has .ensures) (c .before .before .before .before .before .if1 .left),
-  le-leb _ _ (c .before .before .before .if2 .left),
-  ← c .before .before .message-at .ensures,
-  ne-eqb _ _ (c .if3 .left),
-)
+returns-4 c =
+    let early = c .before .before .before .before .before in
+    simp (
+      was-true (early .before .has .ensures) (early .if1 .left),
+      le-leb _ _ (c .before .before .before .if2 .left),
+      ← c .before .before .message-at .ensures,
+      ne-eqb _ _ (c .if3 .left),
+    )
 
 pub promised-spec : {M : Type 1} → statement M
 promised-spec = tie.close (tie.spec (λ c κs. tt) returns returns-2 message-at-requires returns-3 returns-4)

@@ -18,7 +18,9 @@ store-done-requires c κs = let h = promised-in _ _ _ _ _ (was-true (c .before .
     (omega arith, (omega arith, h))
 
 returns-3 : tie.Need-returns-3
-returns-3 c = let p = was-true (c .before .before .before .before .before .promised .ensures) (c .before .before .before .before .if1 .left) in
+returns-3 c =
+    let early = c .before .before .before .before in
+    let p = was-true (early .before .promised .ensures) (early .if1 .left) in
     rw (
       c .done .ensures,
       store-next _ _ _ _ _ _ _ _ p (was-true (c .before .before .before .below-time .ensures) (c .before .before .if2 .left)),

@@ -13,14 +13,16 @@ returns c = rw (
 )
 
 returns-2 : tie.Need-returns-2
-returns-2 c = rw (
-  c .larger5 .ensures,
-  c .before .larger4 .ensures,
-  c .before .before .enum-told2 .given .1,
-  c .before .before .before .before .larger3 .ensures,
-  c .before .before .before .before .before .larger2 .ensures,
-  c .before .before .before .before .before .before .larger .ensures,
-)
+returns-2 c =
+    let early = c .before .before .before .before in
+    rw (
+      c .larger5 .ensures,
+      c .before .larger4 .ensures,
+      c .before .before .enum-told2 .given .1,
+      early .larger3 .ensures,
+      early .before .larger2 .ensures,
+      early .before .before .larger .ensures,
+    )
 
 pub store-pre-spec : {M : Type 1} → statement M
 store-pre-spec =

@@ -6,14 +6,16 @@ use Rattle.rules_stores.proofs.stored.Statement.{statement}
 use Rattle.rules_stores.proofs.stored.Tie as tie
 
 returns : tie.Need-returns
-returns c = rw (
-  c .advance .ensures,
-  c .before .with-forward .ensures,
-  c .before .before .larger .ensures,
-  c .before .before .before .with-views .ensures,
-  c .before .before .before .before .raise-coherence .ensures,
-  c .before .before .before .before .before .store-views .ensures,
-)
+returns c =
+    let early = c .before .before .before .before in
+    rw (
+      c .advance .ensures,
+      c .before .with-forward .ensures,
+      c .before .before .larger .ensures,
+      c .before .before .before .with-views .ensures,
+      early .raise-coherence .ensures,
+      early .before .store-views .ensures,
+    )
 
 pub stored-spec : {M : Type 1} → statement M
 stored-spec =

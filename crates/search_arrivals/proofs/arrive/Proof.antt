@@ -22,11 +22,15 @@ returns-3 c = record { some-left = c .before .before .before .if1 .left; next = 
 
 returns-4 : tie.Need-returns-4
 unfolding Arrives
-returns-4 c = λ area. rw (c .after-known .ensures) (known-told _ _ _ _ area _ (seen-known (c .before .before .before .before .before .before .before .before .before .pre .0) (c .before .before .before .before .before .before .before .before .before .pre .1) (c .before .before .before .look-up .result) (c .before .before .before .look-up .ensures) (c .before .if4 .taken)))
+returns-4 c =
+    let early = c .before .before .before .before .before .before .before .before .before in
+    λ area. rw (c .after-known .ensures) (known-told _ _ _ _ area _ (seen-known (early .pre .0) (early .pre .1) (c .before .before .before .look-up .result) (c .before .before .before .look-up .ensures) (c .before .if4 .taken)))
 
 returns-5 : tie.Need-returns-5
 unfolding Arrives
-returns-5 c = record { some-left = c .before .before .before .before .before .before .if1 .left; next = c .before .before .before .before .before .next-open .ensures; not-ended = c .before .before .before .before .if2 .left; has-slot = λ l. c .before .before .look-up .ensures .within }
+returns-5 c =
+    let early = c .before .before .before .before in
+    record { some-left = early .before .before .if1 .left; next = early .before .next-open .ensures; not-ended = early .if2 .left; has-slot = λ l. c .before .before .look-up .ensures .within }
 
 pub arrive-spec : {M : Type 1} → statement M
 arrive-spec =

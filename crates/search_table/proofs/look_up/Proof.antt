@@ -10,8 +10,9 @@ use Rattle.search_table.proofs.look_up.Tie as tie
 returns : tie.Need-returns
 unfolding countAt
 returns c =
-    let w = within-table _ _ (c .before .before .before .before .slot-of .ensures) in
-    record { within = w; there = λ h. (key-there _ _ w _ _ _ (c .before .before .before .before .before .before .before .put-machine .ensures) (c .before .before .same .ensures (c .before .if1 .taken)), sym (c .u64-at .ensures)) }
+    let early = c .before .before .before .before in
+    let w = within-table _ _ (early .slot-of .ensures) in
+    record { within = w; there = λ h. (key-there _ _ w _ _ _ (early .before .before .before .put-machine .ensures) (c .before .before .same .ensures (c .before .if1 .taken)), sym (c .u64-at .ensures)) }
 
 returns-2 : tie.Need-returns-2
 returns-2 c = record { within = within-table _ _ (c .before .before .before .slot-of .ensures); there = λ h. absurd (h refl) }

@@ -22,7 +22,9 @@ returns : tie.Need-returns
 returns c = (execute-done _ _ _ _ _ (answerOnly (c .settled .result)) _ (c .before .before .before .before .pre .1) _ (c .before .before .before .execute .ensures) (c .before .enum-told .given .1) (c .settled .ensures .0), c .settled .ensures .1)
 
 returns-2 : tie.Need-returns-2
-returns-2 c = (execute-refused _ _ _ _ _ _ _ (c .before .before .before .before .pre .1) _ (c .before .before .before .execute .ensures) _ (c .before .answer .given .1) refl, c .before .before .before .before .pre .2)
+returns-2 c =
+    let early = c .before .before .before .before in
+    (execute-refused _ _ _ _ _ _ _ (early .pre .1) _ (c .before .before .before .execute .ensures) _ (c .before .answer .given .1) refl, early .pre .2)
 
 pub execute-at-spec : {M : Type 1} → statement M
 execute-at-spec =

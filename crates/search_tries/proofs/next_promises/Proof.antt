@@ -20,7 +20,9 @@ add-then : tie.Need-add-t9
 add-then c = let h = c .before .before .before .before .next-reached .ensures .two (c .before .if3 .left) .within in omega arith
 
 returns-4 : tie.Need-returns-4
-returns-4 c = two-explored _ _ _ _ _ (c .before .before .before .before .next-reached .ensures) (c .before .before .before .before .before .if2 .left) (c .before .if3 .left)
+returns-4 c =
+    let early = c .before .before .before .before in
+    two-explored _ _ _ _ _ (early .next-reached .ensures) (early .before .if2 .left) (c .before .if3 .left)
 
 pub next-promises-spec : {M : Type 1} → statement M
 next-promises-spec = tie.close (tie.spec returns (λ c. next-full _ _ _ _ (c .if2 .taken)) (λ c κs. (c .before .before .before .before .pre .0, c .if2 .left)) add-next returns-3 add-then returns-4)

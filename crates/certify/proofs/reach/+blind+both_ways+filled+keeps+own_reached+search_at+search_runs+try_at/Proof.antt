@@ -286,7 +286,9 @@ both-ways-returns : (t : ℕ) → both-ways-lts.Need-returns (both-ways-claims t
 both-ways-returns t c = straight-ended _ _ _ _ _ (walked-leads (c .before .before .before .before .pre .1 .1 .1 .0)) (c .before .before .before .before .args .q) _ (c .before .before .before .search-runs .ensures) (c .before .ended .ensures (c .if1 .taken))
 
 both-ways-held-requires : (t : ℕ) → both-ways-lts.Need-held-requires (both-ways-claims t) (both-ways-at t) both-ways.Post
-both-ways-held-requires t c κs = (c .before .before .before .before .before .pre .1 .1 .0 .some-step, c .before .before .before .before .before .pre .1 .1 .1 .1)
+both-ways-held-requires t c κs =
+    let early = c .before .before .before .before .before in
+    (early .pre .1 .1 .0 .some-step, early .pre .1 .1 .1 .1)
 
 both-ways-of-register-requires : (t : ℕ) → both-ways-lts.Need-of-register-requires (both-ways-claims t) (both-ways-at t) both-ways.Post
 both-ways-of-register-requires t c κs = search needs
@@ -349,7 +351,9 @@ filled-seeks-requires : (t : ℕ) → filled-lts.Need-seeks-requires (filled-cla
 filled-seeks-requires t c κs = search needs
 
 filled-returns-2 : (t : ℕ) → filled-lts.Need-returns-2 (filled-claims t) (filled-at t) filled.Post
-filled-returns-2 t c = fill-unsought _ _ _ _ _ (c .before .before .before .before .before .before .before .before .before .before .args .q) _ _ _ _ (c .before .before .before .before .before .x .given .1) _ (c .before .before .before .own-message .ensures) _ (rw (c .before .before .number-of .ensures) at (c .before .seeks .ensures .1)) (c .if2 .taken)
+filled-returns-2 t c =
+    let early = c .before .before .before .before .before in
+    fill-unsought _ _ _ _ _ (early .before .before .before .before .before .args .q) _ _ _ _ (early .x .given .1) _ (c .before .before .before .own-message .ensures) _ (rw (c .before .before .number-of .ensures) at (c .before .seeks .ensures .1)) (c .if2 .taken)
 
 filled-with-requires : (t : ℕ) → filled-lts.Need-with-requires (filled-claims t) (filled-at t) filled.Post
 filled-with-requires t c κs = search needs
@@ -367,10 +371,14 @@ filled-returns-3 : (t : ℕ) → filled-lts.Need-returns-3 (filled-claims t) (fi
 filled-returns-3 t c = fill-here _ _ _ _ _ (c .before .before .before .before .before .before .before .before .before .before .before .before .before .before .before .before .before .args .q) _ _ _ _ (c .before .before .before .before .before .before .before .before .before .before .before .before .x .given .1) _ (c .before .before .before .before .before .before .before .before .before .before .own-message .ensures) _ refl (omega (arith, c .before .before .before .before .before .before .before .before .before .before .own-message .ok)) (rw (c .before .before .before .before .before .before .before .before .before .number-of .ensures) at (c .before .before .before .before .before .before .before .before .seeks .ensures .0 (not-false _ (c .before .before .before .before .before .before .before .if2 .left)))) _ (rw (c .before .before .before .before .before .before .before .before .before .number-of .ensures) at (c .before .before .before .before .before .before .with .ensures)) (alone-kept (c .before .before .before .before .before .before .before .before .before .before .before .before .before .before .before .before .before .args .c) _ (c .before .before .before .before .before .before .before .before .before .before .before .before .before .before .before .before .before .args .m) _ _ _ _ _ _ (c .before .before .before .before .before .before .before .before .before .before .own-message .ensures) _ (rw (c .before .before .before .view-of .ensures, c .before .before .view-of2 .ensures) at (c .before .below-time .ensures)) (c .before .before .before .before .before .before .before .before .before .before .before .before .before .before .before .before .before .pre .1 .ready .promises-in) (c .before .before .before .before .before .before .before .before .before .before .before .before .before .before .before .before .before .pre .1 .ready .room) (places t (c .before .before .before .before .before .before .before .before .before .before .before .before .before .before .before .before .before)) _ (c .before .before .before .before .before .before .before .before .before .before .before .before .before .before .before .has .ensures) (c .before .before .before .before .before .before .before .before .before .before .before .before .before .before .if1 .left) (c .before .before .before .before .if3 .taken) (c .if4 .taken))
 
 filled-returns-4 : (t : ℕ) → filled-lts.Need-returns-4 (filled-claims t) (filled-at t) filled.Post
-filled-returns-4 t c = fill-fails _ _ _ _ _ (c .before .before .before .before .before .before .before .before .before .before .before .before .before .before .before .before .before .args .q) _ _ _ _ (c .before .before .before .before .before .before .before .before .before .before .before .before .x .given .1) _ (c .before .before .before .before .before .before .before .before .before .before .own-message .ensures) _ refl (λ s' rests rep p. alone-lost (c .before .before .before .before .before .before .before .before .before .before .before .before .before .before .before .before .before .args .c) _ (c .before .before .before .before .before .before .before .before .before .before .before .before .before .before .before .before .before .args .m) _ _ _ _ _ _ (c .before .before .before .before .before .before .before .before .before .before .own-message .ensures) _ (rw (c .before .before .before .view-of .ensures, c .before .before .view-of2 .ensures) at (c .before .below-time .ensures)) (c .if4 .left) _ s' (rests .under) (λ o a' d' is. rep o a' d' (c .before .before .before .before .before .before .before .before .before .before .before .before .x .given .1 ∙ is)) p)
+filled-returns-4 t c =
+    let early = c .before .before .before .before .before .before .before .before .before .before in
+    fill-fails _ _ _ _ _ (early .before .before .before .before .before .before .before .args .q) _ _ _ _ (early .before .before .x .given .1) _ (early .own-message .ensures) _ refl (λ s' rests rep p. alone-lost (early .before .before .before .before .before .before .before .args .c) _ (early .before .before .before .before .before .before .before .args .m) _ _ _ _ _ _ (early .own-message .ensures) _ (rw (c .before .before .before .view-of .ensures, c .before .before .view-of2 .ensures) at (c .before .below-time .ensures)) (c .if4 .left) _ s' (rests .under) (λ o a' d' is. rep o a' d' (early .before .before .x .given .1 ∙ is)) p)
 
 filled-fill-requires : (t : ℕ) → filled-lts.Need-fill-requires (filled-claims t) (filled-at t) filled.Post
-filled-fill-requires t c κs = hole-time _ _ _ _ (c .before .before .before .before .before .before .before .before .before .before .before .before .before .pre .1) _ _ (c .before .before .before .before .before .before .before .before .before .before .before .has .ensures) (c .before .before .before .before .before .before .before .before .before .before .if1 .left)
+filled-fill-requires t c κs =
+    let early = c .before .before .before .before .before .before .before .before .before .before in
+    hole-time _ _ _ _ (early .before .before .before .pre .1) _ _ (early .before .has .ensures) (early .if1 .left)
 
 filled-keeps-requires : (t : ℕ) → filled-lts.Need-keeps-requires (filled-claims t) (filled-at t) filled.Post
 filled-keeps-requires t c κs = (omega (arith, c .before .before .before .before .before .before .before .before .before .before .before .before .before .before .pre .0), (trying-filled _ _ (c .before .before .before .before .before .before .before .before .before .before .before .before .before .before .pre .1) (c .fill .ensures) (c .before .before .before .before .before .before .before .before .before .x .given .1), record { mode = _; a = _; d = _; is-store = refl }))
@@ -391,7 +399,9 @@ filled-enum-told-4 : (t : ℕ) → filled-lts.Need-enum-told-4 (filled-claims t)
 filled-enum-told-4 t c = search needs
 
 filled-returns-6 : (t : ℕ) → filled-lts.Need-returns-6 (filled-claims t) (filled-at t) filled.Post
-filled-returns-6 t c = fill-fails _ _ _ _ _ (c .before .before .before .before .before .before .before .before .before .before .before .before .before .before .before .before .before .before .args .q) _ _ _ _ (c .before .before .before .before .before .before .before .before .before .before .before .before .before .x .given .1) _ (c .before .before .before .before .before .before .before .before .before .before .before .own-message .ensures) _ (c .before .before .before .before .fill .ensures) (λ s' rests rep p. c .before .before .before .keeps .ensures .is-lost (c .before .if5 .left) s' rests (λ o a' d' is. rep o a' d' (c .before .before .before .before .before .before .before .before .before .before .before .before .before .x .given .1 ∙ is)) p)
+filled-returns-6 t c =
+    let early = c .before .before .before .before in
+    fill-fails _ _ _ _ _ (early .before .before .before .before .before .before .before .before .before .before .before .before .before .before .args .q) _ _ _ _ (early .before .before .before .before .before .before .before .before .before .x .given .1) _ (early .before .before .before .before .before .before .before .own-message .ensures) _ (early .fill .ensures) (λ s' rests rep p. c .before .before .before .keeps .ensures .is-lost (c .before .if5 .left) s' rests (λ o a' d' is. rep o a' d' (early .before .before .before .before .before .before .before .before .before .x .given .1 ∙ is)) p)
 
 filled-returns-7 : (t : ℕ) → filled-lts.Need-returns-7 (filled-claims t) (filled-at t) filled.Post
 filled-returns-7 t c = fill-none _ _ _ _ _ (c .before .before .before .before .before .args .q) _ (λ y. rw (c .enum-told .given .1))
@@ -451,13 +461,17 @@ own-reached-enum-told-2 : (t : ℕ) → own-reached-lts.Need-enum-told-2 (own-re
 own-reached-enum-told-2 t c = search needs
 
 own-reached-returns-2 : (t : ℕ) → own-reached-lts.Need-returns-2 (own-reached-claims t) (own-reached-at t) own-reached.Post
-own-reached-returns-2 t c = (owns-stuck _ _ _ _ _ (c .before .before .before .before .before .before .before .before .before .before .before .args .q) (c .before .before .before .before .before .before .before .before .before .before .before .args .k) _ _ _ (c .before .before .before .before .before .before .before .x .given .1) (c .before .before .before .before .before .before .before .before .before .before .before .pre .1 .1 .room (not-false _ (c .before .before .before .before .before .before .before .before .before .if1 .left))) _ (c .before .before .own-store .ensures) _ (λ v w g. rw (c .before .before .before .before .before .barring .ensures) at (c .before .before .before .before .noting .ensures v w (c .before .before .before .noting2 .ensures v w g .0) .1)) (λ v w g. c .before .before .before .noting2 .ensures v w g .1) _ (c .enum-told2 .given .1), record { agreeing = λ v w g. c .before .before .before .before .noting .ensures v w (c .before .before .before .noting2 .ensures v w g .0) .0 })
+own-reached-returns-2 t c =
+    let early = c .before .before .before .before in
+    (owns-stuck _ _ _ _ _ (early .before .before .before .before .before .before .before .args .q) (early .before .before .before .before .before .before .before .args .k) _ _ _ (early .before .before .before .x .given .1) (early .before .before .before .before .before .before .before .pre .1 .1 .room (not-false _ (early .before .before .before .before .before .if1 .left))) _ (c .before .before .own-store .ensures) _ (λ v w g. rw (early .before .barring .ensures) at (early .noting .ensures v w (c .before .before .before .noting2 .ensures v w g .0) .1)) (λ v w g. c .before .before .before .noting2 .ensures v w g .1) _ (c .enum-told2 .given .1), record { agreeing = λ v w g. early .noting .ensures v w (c .before .before .before .noting2 .ensures v w g .0) .0 })
 
 own-reached-own-message-requires : (t : ℕ) → own-reached-lts.Need-own-message-requires (own-reached-claims t) (own-reached-at t) own-reached.Post
 own-reached-own-message-requires t c κs = search needs
 
 own-reached-append-requires : (t : ℕ) → own-reached-lts.Need-append-requires (own-reached-claims t) (own-reached-at t) own-reached.Post
-own-reached-append-requires t c κs = c .before .before .before .before .before .before .before .before .before .before .before .before .pre .1 .1 .room (not-false _ (c .before .before .before .before .before .before .before .before .before .before .if1 .left))
+own-reached-append-requires t c κs =
+    let early = c .before .before .before .before .before .before .before .before .before .before in
+    early .before .before .pre .1 .1 .room (not-false _ (early .if1 .left))
 
 own-reached-search-runs-requires : (t : ℕ) → own-reached-lts.Need-search-runs-requires (own-reached-claims t) (own-reached-at t) own-reached.Post
 own-reached-search-runs-requires t c κs = let f = further-own _ _ _ _ (c .before .before .before .before .before .before .before .before .before .before .before .before .before .pre .1 .0) _ _ _ (c .before .before .before .before .before .before .before .before .before .x .given .1) _ _ (c .before .before .before .before .own-store .ensures) (c .before .before .enum-told .given .1) in (omega (arith, c .before .before .before .before .before .before .before .before .before .before .before .before .before .pre .0), rw (c .append .ensures, c .before .own-message .ensures) (ready-own _ _ _ _ _ (c .before .before .before .before .before .before .before .before .before .before .before .before .before .pre .1 .0 .ready) (c .before .before .before .before .before .before .before .before .before .before .before .before .before .pre .1 .1 .room (not-false _ (c .before .before .before .before .before .before .before .before .before .before .before .if1 .left))) (ruled-done _ _ _ (c .before .before .before .before .own-store .ensures) (c .before .before .enum-told .given .1))))
@@ -654,7 +668,9 @@ try-at-emptied-requires : (t : ℕ) → try-at-lts.Need-emptied-requires (try-at
 try-at-emptied-requires t c κs = search needs
 
 try-at-returns-2 : (t : ℕ) → try-at-lts.Need-returns-2 (try-at-claims t) (try-at-at t) try-at.Post
-try-at-returns-2 t c = went-found _ _ _ _ _ _ _ _ (c .before .before .before .before .before .before .before .before .before .pre .1 .1 .1) _ (ruled-done _ _ _ (c .before .before .before .before .before .before .before .before .execute .ensures) (c .before .before .before .before .before .before .enum-told .given .1)) (c .before .before .before .before .kept .ensures .0 (c .before .before .before .if1 .taken)) _ (rw (c .before .before .before .before .before .after .ensures) at (c .emptied .ensures))
+try-at-returns-2 t c =
+    let early = c .before .before .before .before in
+    went-found _ _ _ _ _ _ _ _ (early .before .before .before .before .before .pre .1 .1 .1) _ (ruled-done _ _ _ (early .before .before .before .before .execute .ensures) (early .before .before .enum-told .given .1)) (early .kept .ensures .0 (c .before .before .before .if1 .taken)) _ (rw (early .before .after .ensures) at (c .emptied .ensures))
 
 try-at-idle-requires : (t : ℕ) → try-at-lts.Need-idle-requires (try-at-claims t) (try-at-at t) try-at.Post
 try-at-idle-requires t c κs = c .before .before .before .before .before .before .pre .1 .0 .ready .room

@@ -10,12 +10,13 @@ returns c = let b = c .before .before .before .before in (b .pre, λ s s' told h
 
 returns-2 : tie.Need-returns-2
 returns-2 c =
-    let e = c .before .before .before .before .before .before .before .before .before .args .e in (
+    let early = c .before .before .before .before in
+    let e = early .before .before .before .before .before .args .e in (
       c .note2 .ensures .0,
       λ s s' told h.
           let q = c .note2 .ensures .1 s s' h in
           let p = c .before .before .note .ensures .1 s s' (q .0) in
-          (p .0, way-told (told .first-held) (told .second-held) (p .1) (q .1) (e .instruction .m) (c .before .before .before .before .branch-shares .ensures)),
+          (p .0, way-told (told .first-held) (told .second-held) (p .1) (q .1) (e .instruction .m) (early .branch-shares .ensures)),
     )
 
 pub before-branch-spec : {M : Type 1} → statement M

@@ -8,13 +8,14 @@ use Rattle.certify_cares.proofs.before.before_compute.Tie as tie
 
 returns : tie.Need-returns
 returns c =
-    let e = c .before .before .before .before .before .before .before .before .args .e in
-    let t = c .before .before .before .before .before .take .ensures in (
+    let early = c .before .before .before .before in
+    let e = early .before .before .before .before .args .e in
+    let t = early .before .take .ensures in (
       c .note2 .ensures .0,
       λ s s' told h.
           let q = c .note2 .ensures .1 s s' h in
           let p = c .before .before .note .ensures .1 s s' (q .0) in
-          (t .1 .1 s s' (p .0), result-told (told .first-held) (told .second-held) (p .1) (q .1) (computeMode (e .instruction .m)) (t .1 .0) (c .before .before .before .before .compute-shares .ensures)),
+          (t .1 .1 s s' (p .0), result-told (told .first-held) (told .second-held) (p .1) (q .1) (computeMode (e .instruction .m)) (t .1 .0) (early .compute-shares .ensures)),
     )
 
 pub before-compute-spec : {M : Type 1} → statement M

@@ -7,16 +7,22 @@ use Rattle.certify_lost.proofs.wanted.out_of_range.Statement.{statement
 use Rattle.certify_lost.proofs.wanted.out_of_range.Tie as tie
 
 returns : tie.Need-returns
-returns c = λ out y a z. not-one (c .before .before .before .before .args .w) (c .before .before .before .before .args .v) y out z (c .before .before .before .before .pre) (c .before .if1 .taken) a
+returns c =
+    let early = c .before .before .before .before in
+    λ out y a z. not-one (early .args .w) (early .args .v) y out z (early .pre) (c .before .if1 .taken) a
 
 returns-2 : tie.Need-returns-2
-returns-2 c = λ out y a z. not-below (c .before .before .before .before .before .before .args .w) (c .before .before .before .before .before .before .args .v) y out z (c .before .before .before .before .before .before .pre) a
+returns-2 c =
+    let early = c .before .before .before .before .before .before in
+    λ out y a z. not-below (early .args .w) (early .args .v) y out z (early .pre) a
 
 returns-3 : tie.Need-returns-3
 returns-3 c = λ out y a z. not-above (c .before .before .before .before .before .before .before .before .args .w) (c .before .before .before .before .before .before .before .before .args .v) y out z (let h = c .before .if3 .taken in omega arith) a
 
 returns-4 : tie.Need-returns-4
-returns-4 c = λ out y a z. not-same (c .before .before .before .before .before .before .before .args .w) (c .before .before .before .before .before .before .before .args .v) y out z a
+returns-4 c =
+    let early = c .before .before .before .before .before .before .before in
+    λ out y a z. not-same (early .args .w) (early .args .v) y out z a
 
 pub out-of-range-spec : {M : Type 1} → statement M
 out-of-range-spec =

@@ -6,15 +6,17 @@ use Rattle.rules.proofs.plain.branch_done.Statement.{statement}
 use Rattle.rules.proofs.plain.branch_done.Tie as tie
 
 returns : tie.Need-returns
-returns c = rw (
-  c .advance .ensures,
-  c .before .with-views .ensures,
-  c .before .before .raise-cap .ensures,
-  c .before .before .before .view-of-both .ensures,
-  c .before .before .before .before .branch-by .ensures .0,
-  c .before .before .before .before .before .value-of2 .ensures,
-  c .before .before .before .before .before .before .value-of .ensures,
-)
+returns c =
+    let early = c .before .before .before .before in
+    rw (
+      c .advance .ensures,
+      c .before .with-views .ensures,
+      c .before .before .raise-cap .ensures,
+      c .before .before .before .view-of-both .ensures,
+      early .branch-by .ensures .0,
+      early .before .value-of2 .ensures,
+      early .before .before .value-of .ensures,
+    )
 
 pub branch-done-spec : {M : Type 1} → statement M
 branch-done-spec =

@@ -5,14 +5,16 @@ use Rattle.rules.proofs.plain.compute_done.Statement.{statement}
 use Rattle.rules.proofs.plain.compute_done.Tie as tie
 
 returns : tie.Need-returns
-returns c = rw (
-  c .advance .ensures,
-  c .before .with-register .ensures,
-  c .before .before .view-of-both .ensures,
-  c .before .before .before .combine .ensures,
-  c .before .before .before .before .value-of2 .ensures,
-  c .before .before .before .before .before .value-of .ensures,
-)
+returns c =
+    let early = c .before .before .before .before in
+    rw (
+      c .advance .ensures,
+      c .before .with-register .ensures,
+      c .before .before .view-of-both .ensures,
+      c .before .before .before .combine .ensures,
+      early .value-of2 .ensures,
+      early .before .value-of .ensures,
+    )
 
 pub compute-done-spec : {M : Type 1} → statement M
 compute-done-spec =
