@@ -18,8 +18,5 @@ read-pos c = subst (λ (z : ℤ). pos 0 ≤ℤ z) (sym (toZ-ofZ w64 (c .args .t)
 cast-result : tie.Need-cast-result
 cast-result c = (yes-nonNeg (read-pos c), subst (λ (z : ℤ). Fits w64 (natAbs z)) (sym (toZ-ofZ w64 (c .args .t) (c .fits .t))) (record { fits = lt-of-le-of-lt (natAbs-le (c .args .t) (c .fits .t .sfits)) (lit< tt) }))
 
-returns : tie.Need-returns
-returns c = search needs
-
 pub from-0-on-spec : {M : Type 1} → statement M
-from-0-on-spec = tie.close (tie.spec cast-result returns)
+from-0-on-spec = tie.close (tie.spec cast-result (λ c. search needs))

@@ -9,17 +9,8 @@ use Rattle.encode_bytes.proofs.Putting.{put-run}
 use Rattle.encode_bytes.proofs.put_four.Statement.{statement}
 use Rattle.encode_bytes.proofs.put_four.Tie as tie
 
-slice-write-area-2 : tie.Need-slice-write-area-2
-slice-write-area-2 c = simp length-set (omega arith)
-
-slice-write-area-3 : tie.Need-slice-write-area-3
-slice-write-area-3 c = simp length-set (omega arith)
-
-slice-write-area-4 : tie.Need-slice-write-area-4
-slice-write-area-4 c = simp length-set (omega arith)
-
 returns : tie.Need-returns
 returns c = simp (add-one, add-two, add-three) (put-run (c .args .a ∷ c .args .b ∷ c .args .c ∷ c .args .d ∷ []) (c .args .area .now) (c .args .at) (omega arith))
 
 pub put-four-spec : {M : Type 1} → statement M
-put-four-spec = tie.close (tie.spec (λ c. search needs) (λ c. search needs) slice-write-area-2 (λ c. search needs) slice-write-area-3 (λ c. search needs) slice-write-area-4 (λ c. search needs) returns)
+put-four-spec = tie.close (tie.spec (λ c. search needs) (λ c. search needs) (λ c. simp length-set (omega arith)) (λ c. search needs) (λ c. simp length-set (omega arith)) (λ c. search needs) (λ c. simp length-set (omega arith)) (λ c. search needs) returns)

@@ -6,8 +6,5 @@ use Rattle.encode_bytes.proofs.Putting.{put-one}
 use Rattle.encode_bytes.proofs.put_one.Statement.{statement}
 use Rattle.encode_bytes.proofs.put_one.Tie as tie
 
-returns : tie.Need-returns
-returns c = put-one _ _ _ (omega arith)
-
 pub put-one-spec : {M : Type 1} → statement M
-put-one-spec = tie.close (tie.spec (λ c. search needs) (λ c. search needs) returns)
+put-one-spec = tie.close (tie.spec (λ c. search needs) (λ c. search needs) (λ c. put-one _ _ _ (omega arith)))

@@ -9,11 +9,8 @@ use Rattle.encode_bytes.proofs.Putting.{put-run}
 use Rattle.encode_bytes.proofs.put_two.Statement.{statement}
 use Rattle.encode_bytes.proofs.put_two.Tie as tie
 
-slice-write-area-2 : tie.Need-slice-write-area-2
-slice-write-area-2 c = simp length-set (omega arith)
-
 returns : tie.Need-returns
 returns c = rw add-one (put-run (c .args .a ∷ c .args .b ∷ []) (c .args .area .now) (c .args .at) (omega arith))
 
 pub put-two-spec : {M : Type 1} → statement M
-put-two-spec = tie.close (tie.spec (λ c. search needs) (λ c. search needs) slice-write-area-2 (λ c. search needs) returns)
+put-two-spec = tie.close (tie.spec (λ c. search needs) (λ c. search needs) (λ c. simp length-set (omega arith)) (λ c. search needs) returns)

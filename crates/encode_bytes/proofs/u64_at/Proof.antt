@@ -6,7 +6,9 @@ use Rattle.encode_bytes.proofs.u64_at.Statement.{statement}
 use Rattle.encode_bytes.proofs.u64_at.Tie as tie
 
 returns : tie.Need-returns
-returns c = let a = c .before .before .before .before .before .before .before .before .before .before .before .args in word64-at (a .b .now) (a .at) _ _ (c .before .before .before .before .before .u32-of .ensures) (c .u32-of2 .ensures)
+returns c =
+    let early = c .before .before .before .before .before in
+    let a = early .before .before .before .before .before .before .args in word64-at (a .b .now) (a .at) _ _ (early .u32-of .ensures) (c .u32-of2 .ensures)
 
 pub u64-at-spec : {M : Type 1} → statement M
 u64-at-spec =

@@ -6,8 +6,5 @@ use borrow.Author.Needs.{needs}
 use Rattle.encode_machine.proofs.forward_pair_from.Statement.{statement}
 use Rattle.encode_machine.proofs.forward_pair_from.Tie as tie
 
-returns : tie.Need-returns
-returns c = simp (getD-drop, add-zero)
-
 pub forward-pair-from-spec : {M : Type 1} → statement M
-forward-pair-from-spec = tie.close (tie.spec (λ c. search needs) (λ c. search needs) (λ c. search needs) returns)
+forward-pair-from-spec = tie.close (tie.spec (λ c. search needs) (λ c. search needs) (λ c. search needs) (λ c. simp (getD-drop, add-zero)))

@@ -6,8 +6,5 @@ use borrow.Author.Needs.{needs}
 use Rattle.encode_machine.proofs.message_from.Statement.{statement}
 use Rattle.encode_machine.proofs.message_from.Tie as tie
 
-returns : tie.Need-returns
-returns c = simp (getD-drop, add-zero)
-
 pub message-from-spec : {M : Type 1} → statement M
-message-from-spec = tie.close (tie.spec (λ c. search needs) (λ c. search needs) (λ c. search needs) (λ c. search needs) (λ c. search needs) returns)
+message-from-spec = tie.close (tie.spec (λ c. search needs) (λ c. search needs) (λ c. search needs) (λ c. search needs) (λ c. search needs) (λ c. simp (getD-drop, add-zero)))

@@ -9,14 +9,8 @@ use Rattle.encode_machine.specs.Value.{messageBytes}
 use Rattle.encode_machine.proofs.put_message.Statement.{statement}
 use Rattle.encode_machine.proofs.put_message.Tie as tie
 
-slice-write-area-2 : tie.Need-slice-write-area-2
-slice-write-area-2 c = simp length-set (omega arith)
-
-slice-write-area-3 : tie.Need-slice-write-area-3
-slice-write-area-3 c = simp length-set (omega arith)
-
 returns : tie.Need-returns
 returns c = simp (add-one, add-two) (put-run (messageBytes (c .args .w)) (c .args .area .now) (c .args .at) (omega arith))
 
 pub put-message-spec : {M : Type 1} → statement M
-put-message-spec = tie.close (tie.spec (λ c. search needs) (λ c. search needs) slice-write-area-2 (λ c. search needs) slice-write-area-3 (λ c. search needs) returns)
+put-message-spec = tie.close (tie.spec (λ c. search needs) (λ c. search needs) (λ c. simp length-set (omega arith)) (λ c. search needs) (λ c. simp length-set (omega arith)) (λ c. search needs) returns)

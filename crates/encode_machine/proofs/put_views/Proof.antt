@@ -9,23 +9,8 @@ use Rattle.encode_machine.specs.Value.{viewsBytes}
 use Rattle.encode_machine.proofs.put_views.Statement.{statement}
 use Rattle.encode_machine.proofs.put_views.Tie as tie
 
-slice-write-area-2 : tie.Need-slice-write-area-2
-slice-write-area-2 c = simp length-set (omega arith)
-
-slice-write-area-3 : tie.Need-slice-write-area-3
-slice-write-area-3 c = simp length-set (omega arith)
-
-slice-write-area-4 : tie.Need-slice-write-area-4
-slice-write-area-4 c = simp length-set (omega arith)
-
-slice-write-area-5 : tie.Need-slice-write-area-5
-slice-write-area-5 c = simp length-set (omega arith)
-
-slice-write-area-6 : tie.Need-slice-write-area-6
-slice-write-area-6 c = simp length-set (omega arith)
-
 returns : tie.Need-returns
 returns c = simp (add-one, add-two, add-three, add-four, add-five) (put-run (viewsBytes (c .args .w)) (c .args .area .now) (c .args .at) (omega arith))
 
 pub put-views-spec : {M : Type 1} → statement M
-put-views-spec = tie.close (tie.spec (λ c. search needs) (λ c. search needs) slice-write-area-2 (λ c. search needs) slice-write-area-3 (λ c. search needs) slice-write-area-4 (λ c. search needs) slice-write-area-5 (λ c. search needs) slice-write-area-6 (λ c. search needs) returns)
+put-views-spec = tie.close (tie.spec (λ c. search needs) (λ c. search needs) (λ c. simp length-set (omega arith)) (λ c. search needs) (λ c. simp length-set (omega arith)) (λ c. search needs) (λ c. simp length-set (omega arith)) (λ c. search needs) (λ c. simp length-set (omega arith)) (λ c. search needs) (λ c. simp length-set (omega arith)) (λ c. search needs) returns)

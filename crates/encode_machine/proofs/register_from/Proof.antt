@@ -6,8 +6,5 @@ use borrow.Author.Needs.{needs}
 use Rattle.encode_machine.proofs.register_from.Statement.{statement}
 use Rattle.encode_machine.proofs.register_from.Tie as tie
 
-returns : tie.Need-returns
-returns c = simp (getD-drop, add-zero)
-
 pub register-from-spec : {M : Type 1} → statement M
-register-from-spec = tie.close (tie.spec (λ c. search needs) (λ c. search needs) (λ c. search needs) returns)
+register-from-spec = tie.close (tie.spec (λ c. search needs) (λ c. search needs) (λ c. search needs) (λ c. simp (getD-drop, add-zero)))

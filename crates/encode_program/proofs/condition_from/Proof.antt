@@ -6,8 +6,5 @@ use borrow.Author.Needs.{needs}
 use Rattle.encode_program.proofs.condition_from.Statement.{statement}
 use Rattle.encode_program.proofs.condition_from.Tie as tie
 
-returns : tie.Need-returns
-returns c = simp (getD-drop, add-zero)
-
 pub condition-from-spec : {M : Type 1} → statement M
-condition-from-spec = tie.close (tie.spec (λ c. search needs) (λ c. search needs) (λ c. search needs) (λ c. search needs) (λ c. search needs) (λ c. search needs) (λ c. search needs) returns)
+condition-from-spec = tie.close (tie.spec (λ c. search needs) (λ c. search needs) (λ c. search needs) (λ c. search needs) (λ c. search needs) (λ c. search needs) (λ c. search needs) (λ c. simp (getD-drop, add-zero)))

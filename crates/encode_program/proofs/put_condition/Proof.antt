@@ -9,17 +9,8 @@ use Rattle.encode_program.specs.Value.{conditionBytes}
 use Rattle.encode_program.proofs.put_condition.Statement.{statement}
 use Rattle.encode_program.proofs.put_condition.Tie as tie
 
-slice-write-area-2 : tie.Need-slice-write-area-2
-slice-write-area-2 c = simp length-set (omega arith)
-
-slice-write-area-3 : tie.Need-slice-write-area-3
-slice-write-area-3 c = simp length-set (omega arith)
-
-slice-write-area-4 : tie.Need-slice-write-area-4
-slice-write-area-4 c = simp length-set (omega arith)
-
 returns : tie.Need-returns
 returns c = simp (add-one, add-two, add-three) (put-run (conditionBytes (c .args .q)) (c .args .area .now) (c .args .at) (omega arith))
 
 pub put-condition-spec : {M : Type 1} → statement M
-put-condition-spec = tie.close (tie.spec (λ c. search needs) (λ c. search needs) slice-write-area-2 (λ c. search needs) slice-write-area-3 (λ c. search needs) slice-write-area-4 (λ c. search needs) returns)
+put-condition-spec = tie.close (tie.spec (λ c. search needs) (λ c. search needs) (λ c. simp length-set (omega arith)) (λ c. search needs) (λ c. simp length-set (omega arith)) (λ c. search needs) (λ c. simp length-set (omega arith)) (λ c. search needs) returns)

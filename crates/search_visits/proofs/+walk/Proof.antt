@@ -93,10 +93,14 @@ walk-tries-of-requires : (t : ℕ) → walk-lts.Need-tries-of-requires (walk-cla
 walk-tries-of-requires t c κs = let u = c .before .before .before .before .loop .inv .0 in let h = c .before .before .before .loop-test .taken in (thread-ready u h _ _ (code-at u h _) (thread-at u h _), c .instr-at .ensures)
 
 walk-next-try-requires : (t : ℕ) → walk-lts.Need-next-try-requires (walk-claims t) (walk-at t) walk.Post walk-Inv-loop2 walk-μ-loop2 walk-Inv-loop walk-μ-loop
-walk-next-try-requires t c κs = let u = c .before .before .before .before .before .loop .inv .0 in let h = c .before .before .before .before .loop-test .taken in (thread-ready u h _ _ (code-at u h _) (thread-at u h _), c .tries-of .ensures)
+walk-next-try-requires t c κs =
+    let early = c .before .before .before .before in
+    let u = early .before .loop .inv .0 in let h = early .loop-test .taken in (thread-ready u h _ _ (code-at u h _) (thread-at u h _), c .tries-of .ensures)
 
 walk-loop2-holds : (t : ℕ) → walk-lts.Need-loop2-holds (walk-claims t) (walk-at t) walk.Post walk-Inv-loop2 walk-μ-loop2 walk-Inv-loop walk-μ-loop
-walk-loop2-holds t c = let u = c .before .before .before .before .before .before .loop .inv .0 in let h = c .before .before .before .before .before .loop-test .taken in (first u h _ _ (code-at u h _) (thread-at u h _) _ (c .before .before .instr-at .ensures) _ (c .before .tries-of .ensures) _ (c .next-try .ensures), record { holds = c .before .before .before .before .before .before .loop .inv .1 .holds; as-long = refl })
+walk-loop2-holds t c =
+    let early = c .before .before .before .before .before in
+    let u = early .before .loop .inv .0 in let h = early .loop-test .taken in (first u h _ _ (code-at u h _) (thread-at u h _) _ (c .before .before .instr-at .ensures) _ (c .before .tries-of .ensures) _ (c .next-try .ensures), record { holds = early .before .loop .inv .1 .holds; as-long = refl })
 
 walk-step-at-requires : (t : ℕ) → walk-lts.Need-step-at-requires (walk-claims t) (walk-at t) walk.Post walk-Inv-loop2 walk-μ-loop2 walk-Inv-loop walk-μ-loop
 walk-step-at-requires t c κs = c .if1 .taken
@@ -123,7 +127,9 @@ walk-add-arrive : (t : ℕ) → walk-lts.Need-add-arrive (walk-claims t) (walk-a
 walk-add-arrive t c = let r = ready-below (c .before .before .before .before .before .before .before .before .before .loop2 .inv .0) (c .before .before .before .before .before .before .before .if1 .taken) _ (c .before .before .before .before .before .before .step-at .ensures) (answerOnly (c .before .before .before .before .before .attempt .result)) (c .before .before .before .before .before .attempt .ensures .0) (c .before .before .enum-told .given .1) _ (c .before .memory-after .ensures) _ refl .room in let e = ap length (c .before .before .before .before .before .before .before .before .before .loop2 .inv .0 .same) in let f = ap length (c .before .before .before .before .before .before .before .before .before .before .before .before .before .before .before .before .loop .inv .0 .same) in omega (arith, c .before .before .before .before .before .before .before .before .before .before .before .before .before .before .before .before .before .before .before .before)
 
 walk-arrive-requires : (t : ℕ) → walk-lts.Need-arrive-requires (walk-claims t) (walk-at t) walk.Post walk-Inv-loop2 walk-μ-loop2 walk-Inv-loop walk-μ-loop
-walk-arrive-requires t c κs = (ready-below (c .before .before .before .before .before .before .before .before .before .before .loop2 .inv .0) (c .before .before .before .before .before .before .before .before .if1 .taken) _ (c .before .before .before .before .before .before .before .step-at .ensures) (answerOnly (c .before .before .before .before .before .before .attempt .result)) (c .before .before .before .before .before .before .attempt .ensures .0) (c .before .before .before .enum-told .given .1) _ (c .before .before .memory-after .ensures) _ refl .well, c .before .before .before .before .before .before .before .before .before .before .loop2 .inv .1 .holds)
+walk-arrive-requires t c κs =
+    let early = c .before .before .before .before .before .before in
+    (ready-below (early .before .before .before .before .loop2 .inv .0) (early .before .before .if1 .taken) _ (early .before .step-at .ensures) (answerOnly (early .attempt .result)) (early .attempt .ensures .0) (c .before .before .before .enum-told .given .1) _ (c .before .before .memory-after .ensures) _ refl .well, early .before .before .before .before .loop2 .inv .1 .holds)
 
 walk-enum-known-o : (t : ℕ) → walk-lts.Need-enum-known-o (walk-claims t) (walk-at t) walk.Post walk-Inv-loop2 walk-μ-loop2 walk-Inv-loop walk-μ-loop
 walk-enum-known-o t c = search needs
@@ -150,45 +156,60 @@ walk-put-step-requires : (t : ℕ) → walk-lts.Need-put-step-requires (walk-cla
 walk-put-step-requires t c κs = let r = ready-below (c .before .before .before .before .before .before .before .before .before .before .before .before .before .before .before .before .loop2 .inv .0) (c .before .before .before .before .before .before .before .before .before .before .before .before .before .before .if1 .taken) _ (c .before .before .before .before .before .before .before .before .before .before .before .before .before .step-at .ensures) (answerOnly (c .before .before .before .before .before .before .before .before .before .before .before .before .attempt .result)) (c .before .before .before .before .before .before .before .before .before .before .before .before .attempt .ensures .0) (c .before .before .before .before .before .before .before .before .before .enum-told .given .1) _ (c .before .before .before .before .before .before .before .before .memory-after .ensures) _ refl .room in let l : length (c .before .before .before .before .match2 .area) ≡ length (c .before .before .before .before .before .before .before .before .before .before .before .before .before .before .before .before .loop2 .area) = (⊎-elim (λ v. ap length (v .3)) (λ v. ap length (v .10) ∙ v .5 .kept .1 .1 .1 .1 .1 .1 .0) (c .before .before .before .before .match2 .came)) in omega arith
 
 walk-same-length : (t : ℕ) → walk-lts.Need-same-length (walk-claims t) (walk-at t) walk.Post walk-Inv-loop2 walk-μ-loop2 walk-Inv-loop walk-μ-loop
-walk-same-length t c = c .before .before .put-step .kept .0 ∙ (⊎-elim (λ v. ap length (v .3)) (λ v. ap length (v .10) ∙ v .5 .kept .1 .1 .1 .1 .1 .1 .0) (c .before .before .before .before .before .before .before .match2 .came)) ∙ ap length (c .before .before .before .before .before .before .before .before .before .before .before .before .before .before .before .before .before .before .before .loop2 .inv .0 .same) ∙ ap length (c .before .before .before .before .before .before .before .before .before .before .before .before .before .before .before .before .before .before .before .before .before .before .before .before .before .before .loop .inv .0 .same)
+walk-same-length t c =
+    let early = c .before .before .before .before .before .before .before in
+    c .before .before .put-step .kept .0 ∙ (⊎-elim (λ v. ap length (v .3)) (λ v. ap length (v .10) ∙ v .5 .kept .1 .1 .1 .1 .1 .1 .0) (early .match2 .came)) ∙ ap length (early .before .before .before .before .before .before .before .before .before .before .before .before .loop2 .inv .0 .same) ∙ ap length (early .before .before .before .before .before .before .before .before .before .before .before .before .before .before .before .before .before .before .before .loop .inv .0 .same)
 
 walk-same-length-2 : (t : ℕ) → walk-lts.Need-same-length-2 (walk-claims t) (walk-at t) walk.Post walk-Inv-loop2 walk-μ-loop2 walk-Inv-loop walk-μ-loop
-walk-same-length-2 t c = trusted-on (c .before .before .before .before .before .before .before .before .before .before .before .before .before .before .before .before .before .before .before .before .before .before .before .before .before .before .loop .inv .1) (trusted-on (c .before .before .before .before .before .before .before .before .before .before .before .before .before .before .before .before .before .before .before .loop2 .inv .1) (⊎-elim (λ v. trusted-as (c .before .before .before .before .before .before .before .before .before .before .before .before .before .before .before .before .before .before .before .loop2 .inv .1 .holds) refl (v .4)) (λ v. trusted-as (v .5 .ensures .1) (v .5 .kept .1 .1 .1 .1 .1 .1 .1 .0) (v .11)) (c .before .before .before .before .before .before .before .match2 .came))) .as-long
+walk-same-length-2 t c =
+    let early = c .before .before .before .before .before .before .before in
+    trusted-on (early .before .before .before .before .before .before .before .before .before .before .before .before .before .before .before .before .before .before .before .loop .inv .1) (trusted-on (early .before .before .before .before .before .before .before .before .before .before .before .before .loop2 .inv .1) (⊎-elim (λ v. trusted-as (early .before .before .before .before .before .before .before .before .before .before .before .before .loop2 .inv .1 .holds) refl (v .4)) (λ v. trusted-as (v .5 .ensures .1) (v .5 .kept .1 .1 .1 .1 .1 .1 .1 .0) (v .11)) (early .match2 .came))) .as-long
 
 walk-returns : (t : ℕ) → walk-lts.Need-returns (walk-claims t) (walk-at t) walk.Post walk-Inv-loop2 walk-μ-loop2 walk-Inv-loop walk-μ-loop
-walk-returns t c = (answers (c .before .before .before .before .before .before .before .before .before .before .before .before .before .before .before .before .before .before .before .before .before .before .before .before .before .before .loop .inv .0) (finds (c .before .before .before .before .before .before .before .before .before .before .before .before .before .before .before .before .before .before .before .loop2 .inv .0) (c .before .before .before .before .before .before .before .before .before .before .before .before .before .before .before .before .before .if1 .taken) _ (c .before .before .before .before .before .before .before .before .before .before .before .before .before .before .before .before .step-at .ensures) (answerOnly (c .before .before .before .before .before .before .before .before .before .before .before .before .before .before .before .attempt .result)) (c .before .before .before .before .before .before .before .before .before .before .before .before .before .before .before .attempt .ensures .0) (c .before .before .before .before .before .before .before .before .before .before .before .before .enum-told .given .1) _ (c .before .before .before .before .before .before .before .before .before .before .before .memory-after .ensures) _ refl (c .before .before .before .before .before .before .before .match2 .ran) (c .before .before .before .before .before .before .before .match2 .area) (⊎-elim (λ v. is-over _ _ _ _ _ _ (c .before .before .before .before .before .before .before .before .arrive .ensures) _ _ (v .1 .given .1) (v .5) _ _ (v .3)) (λ v. told-as (v .5 .ensures .0) (v .12) (v .10)) (c .before .before .before .before .before .before .before .match2 .came)) _ _ (c .before .before .before .before .before .ran2 .given .1) _ (c .before .before .put-step .ensures)), trusted-on (c .before .before .before .before .before .before .before .before .before .before .before .before .before .before .before .before .before .before .before .loop2 .inv .1) (⊎-elim (λ v. trusted-as (c .before .before .before .before .before .before .before .before .before .before .before .before .before .before .before .before .before .before .before .loop2 .inv .1 .holds) refl (v .4)) (λ v. trusted-as (v .5 .ensures .1) (v .5 .kept .1 .1 .1 .1 .1 .1 .1 .0) (v .11)) (c .before .before .before .before .before .before .before .match2 .came)) .holds)
+walk-returns t c =
+    let early = c .before .before .before .before .before in
+    (answers (early .before .before .before .before .before .before .before .before .before .before .before .before .before .before .before .before .before .before .before .before .before .loop .inv .0) (finds (early .before .before .before .before .before .before .before .before .before .before .before .before .before .before .loop2 .inv .0) (early .before .before .before .before .before .before .before .before .before .before .before .before .if1 .taken) _ (early .before .before .before .before .before .before .before .before .before .before .before .step-at .ensures) (answerOnly (early .before .before .before .before .before .before .before .before .before .before .attempt .result)) (early .before .before .before .before .before .before .before .before .before .before .attempt .ensures .0) (early .before .before .before .before .before .before .before .enum-told .given .1) _ (early .before .before .before .before .before .before .memory-after .ensures) _ refl (early .before .before .match2 .ran) (early .before .before .match2 .area) (⊎-elim (λ v. is-over _ _ _ _ _ _ (early .before .before .before .arrive .ensures) _ _ (v .1 .given .1) (v .5) _ _ (v .3)) (λ v. told-as (v .5 .ensures .0) (v .12) (v .10)) (early .before .before .match2 .came)) _ _ (early .ran2 .given .1) _ (c .before .before .put-step .ensures)), trusted-on (early .before .before .before .before .before .before .before .before .before .before .before .before .before .before .loop2 .inv .1) (⊎-elim (λ v. trusted-as (early .before .before .before .before .before .before .before .before .before .before .before .before .before .before .loop2 .inv .1 .holds) refl (v .4)) (λ v. trusted-as (v .5 .ensures .1) (v .5 .kept .1 .1 .1 .1 .1 .1 .1 .0) (v .11)) (early .before .before .match2 .came)) .holds)
 
 walk-enum-told-2 : (t : ℕ) → walk-lts.Need-enum-told-2 (walk-claims t) (walk-at t) walk.Post walk-Inv-loop2 walk-μ-loop2 walk-Inv-loop walk-μ-loop
 walk-enum-told-2 t c = search needs
 
 walk-same-length-3 : (t : ℕ) → walk-lts.Need-same-length-3 (walk-claims t) (walk-at t) walk.Post walk-Inv-loop2 walk-μ-loop2 walk-Inv-loop walk-μ-loop
-walk-same-length-3 t c = (⊎-elim (λ v. ap length (v .3)) (λ v. ap length (v .10) ∙ v .5 .kept .1 .1 .1 .1 .1 .1 .0) (c .before .before .match2 .came)) ∙ ap length (c .before .before .before .before .before .before .before .before .before .before .before .before .before .before .loop2 .inv .0 .same) ∙ ap length (c .before .before .before .before .before .before .before .before .before .before .before .before .before .before .before .before .before .before .before .before .before .loop .inv .0 .same)
+walk-same-length-3 t c =
+    let early = c .before .before .before .before .before .before .before .before .before .before .before .before .before .before in
+    (⊎-elim (λ v. ap length (v .3)) (λ v. ap length (v .10) ∙ v .5 .kept .1 .1 .1 .1 .1 .1 .0) (c .before .before .match2 .came)) ∙ ap length (early .loop2 .inv .0 .same) ∙ ap length (early .before .before .before .before .before .before .before .loop .inv .0 .same)
 
 walk-same-length-4 : (t : ℕ) → walk-lts.Need-same-length-4 (walk-claims t) (walk-at t) walk.Post walk-Inv-loop2 walk-μ-loop2 walk-Inv-loop walk-μ-loop
-walk-same-length-4 t c = trusted-on (c .before .before .before .before .before .before .before .before .before .before .before .before .before .before .before .before .before .before .before .before .before .loop .inv .1) (trusted-on (c .before .before .before .before .before .before .before .before .before .before .before .before .before .before .loop2 .inv .1) (⊎-elim (λ v. trusted-as (c .before .before .before .before .before .before .before .before .before .before .before .before .before .before .loop2 .inv .1 .holds) refl (v .4)) (λ v. trusted-as (v .5 .ensures .1) (v .5 .kept .1 .1 .1 .1 .1 .1 .1 .0) (v .11)) (c .before .before .match2 .came))) .as-long
+walk-same-length-4 t c =
+    let early = c .before .before .before .before .before .before .before .before .before .before .before .before .before .before in
+    trusted-on (early .before .before .before .before .before .before .before .loop .inv .1) (trusted-on (early .loop2 .inv .1) (⊎-elim (λ v. trusted-as (early .loop2 .inv .1 .holds) refl (v .4)) (λ v. trusted-as (v .5 .ensures .1) (v .5 .kept .1 .1 .1 .1 .1 .1 .1 .0) (v .11)) (c .before .before .match2 .came))) .as-long
 
 walk-returns-2 : (t : ℕ) → walk-lts.Need-returns-2 (walk-claims t) (walk-at t) walk.Post walk-Inv-loop2 walk-μ-loop2 walk-Inv-loop walk-μ-loop
-walk-returns-2 t c = (answers (c .before .before .before .before .before .before .before .before .before .before .before .before .before .before .before .before .before .before .before .before .before .loop .inv .0) (runs-out (c .before .before .before .before .before .before .before .before .before .before .before .before .before .before .loop2 .inv .0) (c .before .before .before .before .before .before .before .before .before .before .before .before .if1 .taken) _ (c .before .before .before .before .before .before .before .before .before .before .before .step-at .ensures) (answerOnly (c .before .before .before .before .before .before .before .before .before .before .attempt .result)) (c .before .before .before .before .before .before .before .before .before .before .attempt .ensures .0) (c .before .before .before .before .before .before .before .enum-told .given .1) _ (c .before .before .before .before .before .before .memory-after .ensures) _ refl (c .before .before .match2 .ran) (c .before .before .match2 .area) (⊎-elim (λ v. is-over _ _ _ _ _ _ (c .before .before .before .arrive .ensures) _ _ (v .1 .given .1) (v .5) _ _ (v .3)) (λ v. told-as (v .5 .ensures .0) (v .12) (v .10)) (c .before .before .match2 .came)) (c .enum-told2 .given .1)), trusted-on (c .before .before .before .before .before .before .before .before .before .before .before .before .before .before .loop2 .inv .1) (⊎-elim (λ v. trusted-as (c .before .before .before .before .before .before .before .before .before .before .before .before .before .before .loop2 .inv .1 .holds) refl (v .4)) (λ v. trusted-as (v .5 .ensures .1) (v .5 .kept .1 .1 .1 .1 .1 .1 .1 .0) (v .11)) (c .before .before .match2 .came)) .holds)
+walk-returns-2 t c =
+    let early = c .before .before .before .before .before .before in
+    (answers (early .before .before .before .before .before .before .before .before .before .before .before .before .before .before .before .loop .inv .0) (runs-out (early .before .before .before .before .before .before .before .before .loop2 .inv .0) (early .before .before .before .before .before .before .if1 .taken) _ (early .before .before .before .before .before .step-at .ensures) (answerOnly (early .before .before .before .before .attempt .result)) (early .before .before .before .before .attempt .ensures .0) (early .before .enum-told .given .1) _ (early .memory-after .ensures) _ refl (c .before .before .match2 .ran) (c .before .before .match2 .area) (⊎-elim (λ v. is-over _ _ _ _ _ _ (c .before .before .before .arrive .ensures) _ _ (v .1 .given .1) (v .5) _ _ (v .3)) (λ v. told-as (v .5 .ensures .0) (v .12) (v .10)) (c .before .before .match2 .came)) (c .enum-told2 .given .1)), trusted-on (early .before .before .before .before .before .before .before .before .loop2 .inv .1) (⊎-elim (λ v. trusted-as (early .before .before .before .before .before .before .before .before .loop2 .inv .1 .holds) refl (v .4)) (λ v. trusted-as (v .5 .ensures .1) (v .5 .kept .1 .1 .1 .1 .1 .1 .1 .0) (v .11)) (c .before .before .match2 .came)) .holds)
 
 walk-enum-told-3 : (t : ℕ) → walk-lts.Need-enum-told-3 (walk-claims t) (walk-at t) walk.Post walk-Inv-loop2 walk-μ-loop2 walk-Inv-loop walk-μ-loop
 walk-enum-told-3 t c = search needs
 
 walk-after-try-requires : (t : ℕ) → walk-lts.Need-after-try-requires (walk-claims t) (walk-at t) walk.Post walk-Inv-loop2 walk-μ-loop2 walk-Inv-loop walk-μ-loop
-walk-after-try-requires t c κs = let u = c .before .before .before .before .before .before .loop2 .inv .0 in (step-ready u, (c .before .before .attempt .ensures .1, (u .ahead, c .before .before .before .before .if1 .taken)))
+walk-after-try-requires t c κs =
+    let early = c .before .before .before .before in
+    let u = early .before .before .loop2 .inv .0 in (step-ready u, (c .before .before .attempt .ensures .1, (u .ahead, early .if1 .taken)))
 
 walk-loop2-less : (t : ℕ) → walk-lts.Need-loop2-less (walk-claims t) (walk-at t) walk.Post walk-Inv-loop2 walk-μ-loop2 walk-Inv-loop walk-μ-loop
 walk-loop2-less t c = let l = c .before .before .before .before .before .if1 .taken in let a = c .after-try .ensures .0 .after (omega arith) in omega arith
 
 walk-loop2-again : (t : ℕ) → walk-lts.Need-loop2-again (walk-claims t) (walk-at t) walk.Post walk-Inv-loop2 walk-μ-loop2 walk-Inv-loop walk-μ-loop
 walk-loop2-again t c =
+    let early = c .before .before .before .before in
     ⊎-elim
     (λ w. (
-      on (c .before .before .before .before .before .before .before .loop2 .inv .0) _ (c .before .before .before .attempt .ensures .1) _ _ _ _ _ (c .before .match .y) (set-others (c .before .before .before .before .before .before .before .loop2 .inv .0) (c .before .before .before .attempt .result .thread) (c .before .match .y) (ap (λ (z : Machine). z .threads) (w .12))) (c .before .before .before .before .before .if1 .taken) (goes-on (c .before .before .before .before .before .before .before .loop2 .inv .0) (c .before .before .before .before .before .if1 .taken) _ (c .before .before .before .before .step-at .ensures) (answerOnly (c .before .before .before .attempt .result)) (c .before .before .before .attempt .ensures .0) (w .1 .given .1) _ (w .2 .ensures) _ refl (w .6 .ran) (w .6 .area) (⊎-elim (λ v. is-over _ _ _ _ _ _ (w .5 .ensures) _ _ (v .1 .given .1) (v .5) _ _ (v .3)) (λ v. told-as (v .5 .ensures .0) (v .12) (v .10)) (w .6 .came)) _ (w .8 .given .1)) (w .10) (w .13) (c .after-try .ensures),
-      trusted-to (trusted-on (c .before .before .before .before .before .before .before .loop2 .inv .1) (⊎-elim (λ v. trusted-as (c .before .before .before .before .before .before .before .loop2 .inv .1 .holds) refl (v .4)) (λ v. trusted-as (v .5 .ensures .1) (v .5 .kept .1 .1 .1 .1 .1 .1 .1 .0) (v .11)) (w .6 .came))) (w .11),
+      on (early .before .before .before .loop2 .inv .0) _ (c .before .before .before .attempt .ensures .1) _ _ _ _ _ (c .before .match .y) (set-others (early .before .before .before .loop2 .inv .0) (c .before .before .before .attempt .result .thread) (c .before .match .y) (ap (λ (z : Machine). z .threads) (w .12))) (early .before .if1 .taken) (goes-on (early .before .before .before .loop2 .inv .0) (early .before .if1 .taken) _ (early .step-at .ensures) (answerOnly (c .before .before .before .attempt .result)) (c .before .before .before .attempt .ensures .0) (w .1 .given .1) _ (w .2 .ensures) _ refl (w .6 .ran) (w .6 .area) (⊎-elim (λ v. is-over _ _ _ _ _ _ (w .5 .ensures) _ _ (v .1 .given .1) (v .5) _ _ (v .3)) (λ v. told-as (v .5 .ensures .0) (v .12) (v .10)) (w .6 .came)) _ (w .8 .given .1)) (w .10) (w .13) (c .after-try .ensures),
+      trusted-to (trusted-on (early .before .before .before .loop2 .inv .1) (⊎-elim (λ v. trusted-as (early .before .before .before .loop2 .inv .1 .holds) refl (v .4)) (λ v. trusted-as (v .5 .ensures .1) (v .5 .kept .1 .1 .1 .1 .1 .1 .1 .0) (v .11)) (w .6 .came))) (w .11),
     ))
     (λ w. (
-      on (c .before .before .before .before .before .before .before .loop2 .inv .0) _ (c .before .before .before .attempt .ensures .1) _ _ _ _ _ (c .before .match .y) (same-others (c .before .before .before .before .before .before .before .loop2 .inv .0) (c .before .match .y) (w .4)) (c .before .before .before .before .before .if1 .taken) (is-rejected (c .before .before .before .before .before .before .before .loop2 .inv .0) (c .before .before .before .before .before .if1 .taken) _ (c .before .before .before .before .step-at .ensures) (answerOnly (c .before .before .before .attempt .result)) (c .before .before .before .attempt .ensures .0) _ (w .1 .given .1), refl) (w .2) (w .5) (c .after-try .ensures),
-      trusted-to (c .before .before .before .before .before .before .before .loop2 .inv .1) (w .3),
+      on (early .before .before .before .loop2 .inv .0) _ (c .before .before .before .attempt .ensures .1) _ _ _ _ _ (c .before .match .y) (same-others (early .before .before .before .loop2 .inv .0) (c .before .match .y) (w .4)) (early .before .if1 .taken) (is-rejected (early .before .before .before .loop2 .inv .0) (early .before .if1 .taken) _ (early .step-at .ensures) (answerOnly (c .before .before .before .attempt .result)) (c .before .before .before .attempt .ensures .0) _ (w .1 .given .1), refl) (w .2) (w .5) (c .after-try .ensures),
+      trusted-to (early .before .before .before .loop2 .inv .1) (w .3),
     ))
     (c .before .match .came)
 
@@ -211,7 +232,9 @@ walk-loop-less : (t : ℕ) → walk-lts.Need-loop-less (walk-claims t) (walk-at 
 walk-loop-less t c = let l = c .before .before .before .before .before .before .before .before .before .loop-test .taken in let a = c .next-open .ensures .after in omega arith
 
 walk-loop-again : (t : ℕ) → walk-lts.Need-loop-again (walk-claims t) (walk-at t) walk.Post walk-Inv-loop2 walk-μ-loop2 walk-Inv-loop walk-μ-loop
-walk-loop-again t c = (leaves (c .before .before .before .before .before .before .before .before .before .before .loop .inv .0) (c .before .before .before .loop2 .inv .0) (c .before .if1 .left) _ refl _ (c .next-open .ensures), trusted-on (c .before .before .before .before .before .before .before .before .before .before .loop .inv .1) (c .before .before .before .loop2 .inv .1))
+walk-loop-again t c =
+    let early = c .before .before .before .before .before .before .before .before .before .before in
+    (leaves (early .loop .inv .0) (c .before .before .before .loop2 .inv .0) (c .before .if1 .left) _ refl _ (c .next-open .ensures), trusted-on (early .loop .inv .1) (c .before .before .before .loop2 .inv .1))
 
 walk-same-length-5 : (t : ℕ) → walk-lts.Need-same-length-5 (walk-claims t) (walk-at t) walk.Post walk-Inv-loop2 walk-μ-loop2 walk-Inv-loop walk-μ-loop
 walk-same-length-5 t c = ap length (c .before .before .loop .inv .0 .same)

@@ -10,7 +10,9 @@ arrive-requires : tie.Need-arrive-requires
 arrive-requires c κs = (c .before .before .before .pre .0 .well, c .before .before .before .pre .1)
 
 walk-requires : tie.Need-walk-requires
-walk-requires c κs = (c .before .before .before .before .before .before .before .before .before .pre .0, is-open _ _ _ _ _ _ (c .before .before .before .before .before .arrive .ensures) _ _ (c .before .before .before .first .given .1), c .before .before .before .before .before .before .before .before .before .pre .1)
+walk-requires c κs =
+    let early = c .before .before .before .before .before in
+    (early .before .before .before .before .pre .0, is-open _ _ _ _ _ _ (early .arrive .ensures) _ _ (c .before .before .before .first .given .1), early .before .before .before .before .pre .1)
 
 returns : tie.Need-returns
 returns c = (is-over _ _ _ _ _ _ (c .before .before .before .arrive .ensures) _ _ (c .before .ran .given .1) refl _ _ refl, c .before .before .before .before .before .before .before .pre .1)

@@ -7,23 +7,11 @@ use borrow.Author.Needs.{needs}
 use Rattle.step.proofs.promise_step.Statement.{statement}
 use Rattle.step.proofs.promise_step.Tie as tie
 
-stays-requires : tie.Need-stays-requires
-stays-requires c κs = search needs
-
 returns : tie.Need-returns
 returns c = promise-23 _ _ _ _ _ _ _ (c .before .if1 .taken) (c .stays .ensures)
 
-stays-requires-2 : tie.Need-stays-requires-2
-stays-requires-2 c κs = search needs
-
 returns-2 : tie.Need-returns-2
 returns-2 c = promise-24 _ _ _ _ _ _ _ (c .before .before .before .if1 .left) (c .before .if2 .taken) (c .stays2 .ensures)
-
-promised-requires : tie.Need-promised-requires
-promised-requires c κs = (c .if2 .left, c .before .before .before .pre .promises-in)
-
-append-requires : tie.Need-append-requires
-append-requires c κs = search needs
 
 settle-requires : tie.Need-settle-requires
 settle-requires c κs = rw (c .append .ensures, c .before .promised .ensures) (ready-promised _ _ _ (c .before .before .before .before .before .pre) (c .before .before .if2 .left) _)
@@ -35,11 +23,11 @@ pub promise-step-spec : {M : Type 1} → statement M
 promise-step-spec =
     tie.close
     (tie.spec
-    stays-requires
+    (λ c κs. search needs)
     returns
-    stays-requires-2
+    (λ c κs. search needs)
     returns-2
-    promised-requires
-    append-requires
+    (λ c κs. (c .if2 .left, c .before .before .before .pre .promises-in))
+    (λ c κs. search needs)
     settle-requires
     returns-3)

@@ -14,8 +14,5 @@ with-requires c κs =
     let n : m .count + 1 - 1 ≡ m .count = omega arith in
     (omega arith, (omega arith, rw n (c .before .pre .1)))
 
-returns : tie.Need-returns
-returns c = rw (c .with-promises .ensures, c .before .with .ensures)
-
 pub promised-spec : {M : Type 1} → statement M
-promised-spec = tie.close (tie.spec (λ c. search needs) with-requires (λ c κs. search needs) returns)
+promised-spec = tie.close (tie.spec (λ c. search needs) with-requires (λ c κs. search needs) (λ c. rw (c .with-promises .ensures, c .before .with .ensures)))

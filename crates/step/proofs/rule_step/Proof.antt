@@ -8,14 +8,8 @@ use borrow.Author.Needs.{needs}
 use Rattle.step.proofs.rule_step.Statement.{statement}
 use Rattle.step.proofs.rule_step.Tie as tie
 
-refused-requires : tie.Need-refused-requires
-refused-requires c κs = search needs
-
 returns : tie.Need-returns
 returns c = c .refused .ensures ∙ ap (stepped _) (sym (rule-21 _ _ _ (c .before .if1 .taken)))
-
-code-of-requires : tie.Need-code-of-requires
-code-of-requires c κs = of-four _ _ (c .before .before .pre) _ (c .if1 .left)
 
 thread-of-requires : tie.Need-thread-of-requires
 thread-of-requires c κs = of-four _ _ (c .before .before .before .pre) _ (c .before .if1 .left)
@@ -23,40 +17,34 @@ thread-of-requires c κs = of-four _ _ (c .before .before .before .pre) _ (c .be
 thread-step-requires : tie.Need-thread-step-requires
 thread-step-requires c κs = thread-ready _ _ (c .before .before .before .before .pre) _ (c .before .before .if1 .left) _ _ (c .before .code-of .ensures) (c .thread-of .ensures)
 
-enum-told : tie.Need-enum-told
-enum-told c = search needs
-
-memory-after-requires : tie.Need-memory-after-requires
-memory-after-requires c κs = search needs
-
 moved-requires : tie.Need-moved-requires
-moved-requires c κs = of-four _ _ (c .before .before .before .before .before .before .before .before .pre) _ (c .before .before .before .before .before .before .if1 .left)
-
-enum-known-answer : tie.Need-enum-known-answer
-enum-known-answer c = search needs
-
-refused-requires-2 : tie.Need-refused-requires-2
-refused-requires-2 c κs = search needs
+moved-requires c κs =
+    let early = c .before .before .before .before .before .before in
+    of-four _ _ (early .before .before .pre) _ (early .if1 .left)
 
 returns-2 : tie.Need-returns-2
-returns-2 c = rule-taken _ _ _ (c .before .before .before .before .before .before .before .if1 .left) _ _ _ (c .before .before .before .before .before .before .code-of .ensures) (c .before .before .before .before .before .thread-of .ensures) (c .before .before .before .before .thread-step .ensures) (c .before .before .enum-told .given .1) _ (c .before .memory-after .ensures) _ (c .moved .ensures)
+returns-2 c =
+    let early = c .before .before .before .before in
+    rule-taken _ _ _ (early .before .before .before .if1 .left) _ _ _ (early .before .before .code-of .ensures) (early .before .thread-of .ensures) (early .thread-step .ensures) (c .before .before .enum-told .given .1) _ (c .before .memory-after .ensures) _ (c .moved .ensures)
 
 returns-3 : tie.Need-returns-3
-returns-3 c = c .refused2 .ensures ∙ rule-refused _ _ _ (c .before .before .before .before .before .before .before .if1 .left) _ _ _ (c .before .before .before .before .before .before .code-of .ensures) (c .before .before .before .before .before .thread-of .ensures) (c .before .before .before .before .thread-step .ensures) _ (c .before .before .answer .given .1)
+returns-3 c =
+    let early = c .before .before .before .before in
+    c .refused2 .ensures ∙ rule-refused _ _ _ (early .before .before .before .if1 .left) _ _ _ (early .before .before .code-of .ensures) (early .before .thread-of .ensures) (early .thread-step .ensures) _ (c .before .before .answer .given .1)
 
 pub rule-step-spec : {M : Type 1} → statement M
 rule-step-spec =
     tie.close
     (tie.spec
-    refused-requires
+    (λ c κs. search needs)
     returns
-    code-of-requires
+    (λ c κs. of-four _ _ (c .before .before .pre) _ (c .if1 .left))
     thread-of-requires
     thread-step-requires
-    enum-told
-    memory-after-requires
+    (λ c. search needs)
+    (λ c κs. search needs)
     moved-requires
-    enum-known-answer
-    refused-requires-2
+    (λ c. search needs)
+    (λ c κs. search needs)
     returns-2
     returns-3)

@@ -6,26 +6,14 @@ use borrow.Author.Needs.{needs}
 use Rattle.step.proofs.thread_step.Statement.{statement}
 use Rattle.step.proofs.thread_step.Tie as tie
 
-stays-requires : tie.Need-stays-requires
-stays-requires c κs = search needs
-
 returns : tie.Need-returns
 returns c = kind-execute-22 _ _ _ _ _ (c .before .before .before .if1 .taken) (c .before .if2 .taken) (c .stays .ensures)
-
-execute-step-requires : tie.Need-execute-step-requires
-execute-step-requires c κs = search needs
 
 returns-2 : tie.Need-returns-2
 returns-2 c = kind-execute _ _ _ _ (c .execute-step .result) (c .before .before .before .if1 .taken) (c .before .if2 .left) (c .execute-step .ensures)
 
-stays-requires-2 : tie.Need-stays-requires-2
-stays-requires-2 c κs = search needs
-
 returns-3 : tie.Need-returns-3
 returns-3 c = kind-22 _ _ _ _ _ (c .before .before .before .if1 .left) (c .before .if3 .taken) (c .stays2 .ensures)
-
-promise-step-requires : tie.Need-promise-step-requires
-promise-step-requires c κs = search needs
 
 returns-4 : tie.Need-returns-4
 returns-4 c = kind-promise _ _ _ _ (c .promise-step .result) (c .before .if3 .left) (omega (arith, c .before .before .struct-known3 .given)) (c .promise-step .ensures)
@@ -34,11 +22,11 @@ pub thread-step-spec : {M : Type 1} → statement M
 thread-step-spec =
     tie.close
     (tie.spec
-    stays-requires
+    (λ c κs. search needs)
     returns
-    execute-step-requires
+    (λ c κs. search needs)
     returns-2
-    stays-requires-2
+    (λ c κs. search needs)
     returns-3
-    promise-step-requires
+    (λ c κs. search needs)
     returns-4)

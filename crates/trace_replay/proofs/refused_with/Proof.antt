@@ -4,8 +4,5 @@ use mathlib.Core.Path.{refl}
 use Rattle.trace_replay.proofs.refused_with.Statement.{statement}
 use Rattle.trace_replay.proofs.refused_with.Tie as tie
 
-returns : tie.Need-returns
-returns c = refl
-
 pub refused-with-spec : {M : Type 1} → statement M
-refused-with-spec = tie.close (tie.spec returns)
+refused-with-spec = tie.close (tie.spec (λ c. refl))
