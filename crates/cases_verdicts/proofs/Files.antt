@@ -5,11 +5,11 @@ use mathlib.Core.List.{map}
 use Rattle.program.specs.Program.{codeOf}
 use Rattle.program.specs.Counts.{oneStore}
 use Rattle.program.specs.WellFormed.{modeLimit, modeTest, registerTest, kindTest, numberTest}
-use Rattle.program.specs.File.{program, marked, inRange, readHeader, readInstruction, readInstructions, readThread, readThreads, readCondition, readConditions, readQuestion, readEnd, readBody, readFile}
+use Rattle.program.specs.File.{program, marked, inRange, readEach, readHeader, readInstruction, readThread, readCondition, readQuestion, readEnd, readBody, readFile}
 use Rattle.cases_verdicts.specs.Cases.{Case, cases}
 use Rattle.cases_verdicts.specs.Files.{files}
 
 -- THE FILES OF P1 TO P10: each is read as the program of its case
 pub read-cases : map readFile files ≡ map (λ (c : Case). program (c .asks)) cases
-unfolding codeOf oneStore modeLimit modeTest registerTest kindTest numberTest marked inRange readHeader readInstruction readInstructions readThread readThreads readCondition readConditions readQuestion readEnd readBody readFile
+unfolding codeOf oneStore modeLimit modeTest registerTest kindTest numberTest marked inRange readEach readHeader readInstruction readThread readCondition readQuestion readEnd readBody readFile
 read-cases = refl

@@ -1,19 +1,19 @@
 -- The cursor from record to record: what it stands for, that a reading stays within the file, and a loop over records.
 -- Assumes nothing.
 use mathlib.Core.Path.{_≡_, refl, sym, ap, subst, _∙_}
-use mathlib.Core.Bool.{Bool, true, false, _&&_}
-use mathlib.Core.List.{List, [], _∷_}
+use mathlib.Core.Bool.{_&&_}
+use mathlib.Core.List.{List}
 use Prim.Native.Nat.{ℕ, zero, suc, _+_, _-_, _≤_, _<_}
 use native.Mathlib.Omega.{arith}
-use lib.Dec.{T, eqb, leb, leb→le}
+use lib.Dec.{eqb, leb, leb→le}
 use lib.ListN.{length}
-use borrow.Author.Tests.{eq-eqb, ne-eqb, leb-true}
+use borrow.Author.Tests.{eq-eqb, ne-eqb}
 use Rattle.program.specs.declared.Program.{Program}
 use Rattle.program.specs.declared.FileRead.{FileRead}
-use Rattle.program.specs.Program.{noProgram, codeOf}
 use Rattle.program.specs.Counts.{oneStore}
-use Rattle.program.specs.File.{refused, program, Reading, stopped, reading, byteAt, demand, marked, inRange, readHeader, readInstruction, readInstructions, readThread, readThreads, readBody, readCondition, readConditions, readQuestion, readEnd, readFile, withHeader, withCode, withInstruction, instructionOf}
+use Rattle.program.specs.File.{refused, program, Reading, stopped, reading, byteAt, readHeader, readEach, readInstruction, readThread, readBody, readCondition, readQuestion, readEnd, readFile, instructionOf}
 use Rattle.program.proofs.Tests.{and-right}
+use Rattle.program.proofs.Kept.{past-demand, past-mark, past-range, each-keeps}
 use Rattle.program.specs.Answers.{fileRead}
 use Rattle.file_cursor.specs.Cursors.{Progress, Going, Stopped, Cursor, cursorOf, readingBy, readingOf, Inside, Within, Standing}
 
@@ -46,92 +46,49 @@ module _ (c : Cursor) where
   pub going-in : (f : List ℕ) (at s : ℕ) → Standing f c → c .progress ≡ Going at s → Inside f at s (c .program)
   going-in f at s h e = subst (Within f) (going-is at s e) (h .within)
 
--- ---- readings stay within the file
-module _ (f : List ℕ) where
-  within-demand : (b : Bool) (n place : ℕ) (on : Reading) → (b ≡ true → Within f on) → Within f (demand b n place on)
-  within-demand true n place on h = h refl
-  within-demand false n place on h = tt
-
-  within-marked : (at first second n : ℕ) (on : Reading) → (at + 2 + n ≤ length f → Within f on) → Within f (marked f at first second n on)
-  unfolding marked
-  within-marked at first second n on h =
-      within-demand (leb (at + 2 + n) (length f)) 1 at _
-      (λ q. within-demand (eqb (byteAt f at) first && eqb (byteAt f (at + 1)) second) 2 at on (λ r. h (leb-true _ _ q)))
-
-  within-range : (bs : List Bool) (n at : ℕ) (on : Reading) → Within f on → Within f (inRange bs n at on)
-  unfolding inRange
-  within-range [] n at on h = h
-  within-range (b ∷ bs) n at on h = within-demand b n at _ (λ q. within-range bs n (suc at) on h)
-
--- ---- a loop: n records from k on, by the step for one
-unfoldable pub runs : (ℕ → ℕ → ℕ → Program → Reading) → ℕ → ℕ → Reading → Reading
-runs step zero k x = x
-runs step (suc n) k (stopped number place) = stopped number place
-runs step (suc n) k (reading at s p) = runs step n (suc k) (step k at s p)
-
-pub instructions-run : (f : List ℕ) (i n k : ℕ) (x : Reading) → readInstructions f i n k x ≡ runs (readInstruction f i) n k x
-unfolding readInstructions runs
-instructions-run f i zero k x = refl
-instructions-run f i (suc n) k (stopped number place) = refl
-instructions-run f i (suc n) k (reading at s p) = instructions-run f i n (suc k) (readInstruction f i k at s p)
-
-pub threads-run : (f : List ℕ) (n i : ℕ) (x : Reading) → readThreads f n i x ≡ runs (readThread f) n i x
-unfolding readThreads runs
-threads-run f zero i x = refl
-threads-run f (suc n) i (stopped number place) = refl
-threads-run f (suc n) i (reading at s p) = threads-run f n (suc i) (readThread f i at s p)
-
-pub conditions-run : (f : List ℕ) (n k : ℕ) (x : Reading) → readConditions f n k x ≡ runs (readCondition f) n k x
-unfolding readConditions runs
-conditions-run f zero k x = refl
-conditions-run f (suc n) k (stopped number place) = refl
-conditions-run f (suc n) k (reading at s p) = conditions-run f n (suc k) (readCondition f k at s p)
-
-pub from-start : (step : ℕ → ℕ → ℕ → Program → Reading) (n : ℕ) (c : Cursor) (x : Reading) → c ≡ cursorOf x → runs step n 0 x ≡ runs step n 0 (readingOf c)
-from-start step n c x e = ap (runs step n 0) (sym (reads-as e))
+-- ---- a loop: n records by the step for one
+pub from-start : (step : ℕ → ℕ → ℕ → Program → Reading) (n : ℕ) (c : Cursor) (x : Reading) → c ≡ cursorOf x → readEach step n 0 x ≡ readEach step n 0 (readingOf c)
+from-start step n c x e = ap (readEach step n 0) (sym (reads-as e))
 
 -- where a loop stands: the readings ahead of it are those that were ahead at its start
 pub record Ahead (f : List ℕ) (step : ℕ → ℕ → ℕ → Program → Reading) (n : ℕ) (start : Reading) (k : ℕ) (c : Cursor) : Type 0 where
   pub bound : k ≤ n
   pub sound : Standing f c
-  pub rest : runs step n 0 start ≡ runs step (n - k) k (readingOf c)
+  pub rest : readEach step n 0 start ≡ readEach step (n - k) k (readingOf c)
 
 module _ (f : List ℕ) (step : ℕ → ℕ → ℕ → Program → Reading) where
   -- each step stays within the file
   abbrev pub Keeps : Type 0
   Keeps = (k at s : ℕ) (p : Program) → Inside f at s p → Within f (step k at s p)
 
-  runs-stopped : (n k number place : ℕ) → runs step n k (stopped number place) ≡ stopped number place
-  unfolding runs
-  runs-stopped zero k number place = refl
-  runs-stopped (suc n) k number place = refl
+  each-stopped : (n k number place : ℕ) → readEach step n k (stopped number place) ≡ stopped number place
+  unfolding readEach
+  each-stopped zero k number place = refl
+  each-stopped (suc n) k number place = refl
 
-  pub within-runs : Keeps → (n k : ℕ) (x : Reading) → Within f x → Within f (runs step n k x)
-  unfolding runs
-  within-runs h zero k x w = w
-  within-runs h (suc n) k (stopped number place) w = w
-  within-runs h (suc n) k (reading at s p) w = within-runs h n (suc k) (step k at s p) (h k at s p w)
+  pub within-each : Keeps → (n : ℕ) (x : Reading) → Within f x → Within f (readEach step n 0 x)
+  within-each h n = each-keeps step (λ k. Inside f) n (λ k at s p l. h k at s p) (Inside f) (λ at s p w. w)
 
   module _ (n : ℕ) where
     pub ahead-start : (c : Cursor) → Standing f c → Ahead f step n (readingOf c) 0 c
     ahead-start c h =
         let e : n ≡ n - 0 = omega arith in
-        record { bound = omega arith; sound = h; rest = ap (λ (m : ℕ). runs step m 0 (readingOf c)) e }
+        record { bound = omega arith; sound = h; rest = ap (λ (m : ℕ). readEach step m 0 (readingOf c)) e }
 
     module _ (start : Reading) (k : ℕ) (c : Cursor) (a : Ahead f step n start k c) where
-      pub ahead-stops : (number place : ℕ) → c .progress ≡ Stopped number place → c ≡ cursorOf (runs step n 0 start)
+      pub ahead-stops : (number place : ℕ) → c .progress ≡ Stopped number place → c ≡ cursorOf (readEach step n 0 start)
       ahead-stops number place e =
           let q = stopped-is c number place e in
-          as-read (a .sound .stands) (a .rest ∙ (ap (runs step (n - k) k) q ∙ (runs-stopped (n - k) k number place ∙ sym q)))
+          as-read (a .sound .stands) (a .rest ∙ (ap (readEach step (n - k) k) q ∙ (each-stopped (n - k) k number place ∙ sym q)))
 
-      pub ahead-end : n ≤ k → c ≡ cursorOf (runs step n 0 start)
-      unfolding runs
+      pub ahead-end : n ≤ k → c ≡ cursorOf (readEach step n 0 start)
+      unfolding readEach
       ahead-end h =
           let e : n - k ≡ 0 = omega arith in
-          as-read (a .sound .stands) (a .rest ∙ ap (λ (m : ℕ). runs step m k (readingOf c)) e)
+          as-read (a .sound .stands) (a .rest ∙ ap (λ (m : ℕ). readEach step m k (readingOf c)) e)
 
       pub ahead-turn : Keeps → k < n → (at s : ℕ) → c .progress ≡ Going at s → (d : Cursor) → d ≡ cursorOf (step k at s (c .program)) → Ahead f step n start (k + 1) d
-      unfolding runs
+      unfolding readEach
       ahead-turn h l at s e d q =
           let m : n - k ≡ suc (n - (k + 1)) = omega arith in
           let j : suc k ≡ k + 1 = omega arith in
@@ -140,10 +97,10 @@ module _ (f : List ℕ) (step : ℕ → ℕ → ℕ → Program → Reading) whe
             bound = omega arith;
             sound = sound-of f d (step k at s (c .program)) q (h k at s (c .program) w);
             rest = a .rest
-                ∙ (ap (λ (t : ℕ). runs step t k (readingOf c)) m
-                ∙ (ap (runs step (suc (n - (k + 1))) k) (going-is c at s e)
-                ∙ (ap (λ (t : ℕ). runs step (n - (k + 1)) t (step k at s (c .program))) j
-                ∙ ap (runs step (n - (k + 1)) (k + 1)) (sym (reads-as q)))));
+                ∙ (ap (λ (t : ℕ). readEach step t k (readingOf c)) m
+                ∙ (ap (readEach step (suc (n - (k + 1))) k) (going-is c at s e)
+                ∙ (ap (λ (t : ℕ). readEach step (n - (k + 1)) t (step k at s (c .program))) j
+                ∙ ap (readEach step (n - (k + 1)) (k + 1)) (sym (reads-as q)))));
           }
 
 -- ---- each record keeps within the file
@@ -153,46 +110,39 @@ module _ (f : List ℕ) where
   header-within =
       let v = byteAt f 2 in
       let n = byteAt f 3 in
-      let end = reading 4 0 (withHeader v n noProgram) in
-      within-marked f 0 0x50 0x47 2 _
-      (λ l. within-demand f (eqb v 1) 3 2 (demand (leb 1 n && leb n 4) 4 3 end)
-      (λ q. within-demand f (leb 1 n && leb n 4) 4 3 end
-      (λ r. record { place = omega arith; stores = omega arith; threads = leb→le n 4 (and-right (leb 1 n) (leb n 4) (subst T (sym r) tt)) })))
+      past-mark (Inside f) f 0 0x50 0x47 2 _
+      (λ l. past-demand (Inside f) (eqb v 1) 3 2 _
+      (λ q. past-demand (Inside f) (leb 1 n && leb n 4) 4 3 _
+      (λ r. record { place = omega arith; stores = omega arith; threads = leb→le n 4 (and-right (leb 1 n) (leb n 4) r) })))
 
   pub instruction-within : (i : ℕ) → Keeps f (readInstruction f i)
   unfolding readInstruction
   instruction-within i k at s p h =
-      let x = instructionOf f at in
-      let t = s + oneStore x in
-      within-marked f at 0x49 0x4E 7 _
-      (λ l. within-range f _ 6 (at + 2) _
-      (within-demand f (leb t 16) 7 (at + 2) (reading (at + 9) t (withInstruction i k x p))
-      (λ q. record { place = omega arith; stores = leb-true t 16 q; threads = h .threads })))
+      let t = s + oneStore (instructionOf f at) in
+      past-mark (Inside f) f at 0x49 0x4E 7 _
+      (λ l. past-range (Inside f) _ 6 (at + 2) _
+      (λ q. past-demand (Inside f) (leb t 16) 7 (at + 2) _
+      (λ r. record { place = omega arith; stores = leb→le t 16 r; threads = h .threads })))
 
   pub thread-within : Keeps f (readThread f)
   unfolding readThread
   thread-within i at s p h =
       let n = byteAt f (at + 3) in
-      let start = reading (at + 4) s (withCode i (record { count = n; instructions = (codeOf p i) .instructions }) p) in
-      let all = readInstructions f i n 0 start in
-      within-marked f at 0x54 0x48 2 _
-      (λ l. within-demand f (eqb (byteAt f (at + 2)) i) 10 (at + 2) (demand (leb n 16) 5 (at + 3) all)
-      (λ q. within-demand f (leb n 16) 5 (at + 3) all
-      (λ r. subst (Within f) (sym (instructions-run f i n 0 start))
-      (within-runs f (readInstruction f i) (instruction-within i) n 0 start (record { place = omega arith; stores = h .stores; threads = h .threads })))))
+      past-mark (Inside f) f at 0x54 0x48 2 _
+      (λ l. past-demand (Inside f) (eqb (byteAt f (at + 2)) i) 10 (at + 2) _
+      (λ q. past-demand (Inside f) (leb n 16) 5 (at + 3) _
+      (λ r. within-each f (readInstruction f i) (instruction-within i) n _ (record { place = omega arith; stores = h .stores; threads = h .threads }))))
 
   pub condition-within : Keeps f (readCondition f)
   unfolding readCondition
   condition-within k at s p h =
-      within-marked f at 0x43 0x4E 4 _
-      (λ l. within-range f _ 8 (at + 2) _ (record { place = omega arith; stores = h .stores; threads = h .threads }))
+      past-mark (Inside f) f at 0x43 0x4E 4 _
+      (λ l. past-range (Inside f) _ 8 (at + 2) _ (λ q. record { place = omega arith; stores = h .stores; threads = h .threads }))
 
   pub body-within : (x : Reading) → Within f x → Within f (readBody f x)
   unfolding readBody
   body-within (stopped n place) w = w
-  body-within (reading at s p) w =
-      subst (Within f) (sym (threads-run f (p .threads) 0 (reading at s p)))
-      (within-runs f (readThread f) thread-within (p .threads) 0 (reading at s p) w)
+  body-within (reading at s p) w = within-each f (readThread f) thread-within (p .threads) (reading at s p) w
 
 -- ---- a stopped cursor stays as it is; a going one goes on
 pub stays : (f : List ℕ) (c : Cursor) (n place : ℕ) → Standing f c → c .progress ≡ Stopped n place → (g : Reading → Reading) → g (stopped n place) ≡ stopped n place → c ≡ cursorOf (g (readingOf c))
@@ -207,7 +157,7 @@ module _ (f : List ℕ) where
   unfolding readQuestion
   question-stays n place = refl
 
-  pub body-on : (c : Cursor) (at s : ℕ) → c .progress ≡ Going at s → readBody f (readingOf c) ≡ readThreads f (c .program .threads) 0 (reading at s (c .program))
+  pub body-on : (c : Cursor) (at s : ℕ) → c .progress ≡ Going at s → readBody f (readingOf c) ≡ readEach (readThread f) (c .program .threads) 0 (reading at s (c .program))
   unfolding readBody
   body-on c at s e = ap (readBody f) (going-is c at s e)
 

@@ -7,6 +7,7 @@ use lib.ListN.{length}
 use Rattle.program.specs.declared.Program.{Program}
 use Rattle.program.specs.Program.{noProgram}
 use Rattle.program.specs.File.{Reading, stopped, reading}
+use Rattle.program.specs.Inner.{IfReading}
 pub use Rattle.file_cursor.specs.declared.Progress.{Progress}
 pub use Rattle.file_cursor.specs.declared.Progress.the-variants.{Going, Stopped}
 pub use Rattle.file_cursor.specs.declared.Cursor.{Cursor}
@@ -30,8 +31,7 @@ pub record Inside (f : List ℕ) (at s : ℕ) (p : Program) : Type 0 where
   pub threads : p .threads ≤ 4
 
 abbrev pub Within : List ℕ → Reading → Type 0
-Within f (stopped n place) = Unit
-Within f (reading at s p) = Inside f at s p
+Within f x = IfReading (Inside f) x
 
 -- the cursor stands for a reading that is within the file
 pub record Standing (f : List ℕ) (c : Cursor) : Type 0 where

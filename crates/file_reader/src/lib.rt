@@ -3,7 +3,7 @@ ghost use mathlib.Core.Path.{_≡_};
 ghost use Prim.Native.Nat.{_+_, _≤_, _<_};
 ghost use lib.ListN.{length, set};
 ghost use Rattle.program.specs.Program.{noProgram};
-ghost use Rattle.program.specs.File.{reading, conditionOf, withHeader, withQuestion, readHeader, readBody, readCondition, readConditions, readQuestion, readEnd, readFile, refused};
+ghost use Rattle.program.specs.File.{reading, conditionOf, withHeader, withQuestion, readHeader, readBody, readEach, readCondition, readQuestion, readEnd, readFile, refused};
 ghost use Rattle.program.specs.Answers.{fileRead};
 ghost use Rattle.file_cursor.specs.Cursors.{cursorOf, readingOf, Inside, Standing};
 use file_cursor::Cursor;
@@ -101,7 +101,7 @@ fn read_condition(file: &[u8], k: usize, at: usize, s: u8, p: Program) -> Cursor
 
 fn read_conditions(file: &[u8], n: usize, at: usize, s: u8, p: Program) -> Cursor
     requires { ⌜ (n ≤ 8) × Inside (now file) at s p ⌝ }
-    ensures { λ r. ⌜ r ≡ cursorOf (readConditions (now (file .entry)) n 0 (reading at s p)) ⌝ }
+    ensures { λ r. ⌜ r ≡ cursorOf (readEach (readCondition (now (file .entry))) n 0 (reading at s p)) ⌝ }
 {
     let mut c = go_on(at, s, p);
     for k in 0..n {

@@ -3,7 +3,7 @@ ghost use mathlib.Core.Path.{_≡_};
 ghost use Prim.Native.Nat.{_+_, _≤_, _<_};
 ghost use lib.ListN.{length};
 ghost use Rattle.program.specs.Program.{codeOf};
-ghost use Rattle.program.specs.File.{reading, instructionOf, withCode, withInstruction, readInstruction, readInstructions, readThread, readThreads};
+ghost use Rattle.program.specs.File.{reading, instructionOf, withCode, withInstruction, readEach, readInstruction, readThread};
 ghost use Rattle.file_cursor.specs.Cursors.{cursorOf, Inside};
 use file_cursor::Cursor;
 use file_cursor::Progress;
@@ -78,7 +78,7 @@ fn read_instruction(file: &[u8], i: usize, k: usize, at: usize, s: u8, p: Progra
 
 fn read_instructions(file: &[u8], i: usize, n: usize, at: usize, s: u8, p: Program) -> Cursor
     requires { ⌜ ((i < 4) × (n ≤ 16)) × Inside (now file) at s p ⌝ }
-    ensures { λ r. ⌜ r ≡ cursorOf (readInstructions (now (file .entry)) i n 0 (reading at s p)) ⌝ }
+    ensures { λ r. ⌜ r ≡ cursorOf (readEach (readInstruction (now (file .entry)) i) n 0 (reading at s p)) ⌝ }
 {
     let mut c = go_on(at, s, p);
     for k in 0..n {
@@ -122,7 +122,7 @@ fn read_thread(file: &[u8], i: usize, at: usize, s: u8, p: Program) -> Cursor
 
 pub fn read_threads(file: &[u8], n: usize, at: usize, s: u8, p: Program) -> Cursor
     requires { ⌜ (n ≤ 4) × Inside (now file) at s p ⌝ }
-    ensures { λ r. ⌜ r ≡ cursorOf (readThreads (now (file .entry)) n 0 (reading at s p)) ⌝ }
+    ensures { λ r. ⌜ r ≡ cursorOf (readEach (readThread (now (file .entry))) n 0 (reading at s p)) ⌝ }
 {
     let mut c = go_on(at, s, p);
     for i in 0..n {

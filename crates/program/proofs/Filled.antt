@@ -1,43 +1,19 @@
--- What a reading that goes on has passed, and a thread's code of which some instructions are read.
+-- A thread's code of which some instructions are read.
 -- Assumes nothing.
 use mathlib.Core.Path.{_≡_, refl, sym, ap, ap₂, _∙_, subst}
-use mathlib.Core.Bool.{Bool, true, false, _&&_}
-use mathlib.Core.List.{List, [], _∷_}
+use mathlib.Core.List.{List}
 use Prim.Native.Nat.{ℕ, zero, suc, _+_, _-_, _≤_, _<_, zero-le}
-use native.Mathlib.Nat.{not-suc-le-zero}
+use native.Mathlib.Nat.{not-suc-le-zero, le-refl}
 use native.Mathlib.Decide.{ℕ-discrete}
 use native.Mathlib.Omega.{arith}
-use lib.Dec.{T, eqb, leb}
+use lib.Dec.{T}
 use lib.ListN.{length, getD, set, replicate, length-set}
 use lib.Seq.{getD-set-same, getD-set-other}
-use borrow.Author.Tests.{eqb-false}
-use Rattle.program.specs.Tests.{allOf, sumBelow}
+use Rattle.program.specs.Tests.{sumBelow}
 use Rattle.program.specs.Program.{Instruction, Code, Program, noInstruction, noCode, instructionAt, codeOf}
 use Rattle.program.specs.Counts.{oneStore, storesAmong, storesFrom, stores}
 use Rattle.program.specs.WellFormed.{instructionTest}
-use Rattle.program.specs.File.{Reading, reading, byteAt, demand, marked, inRange, withQuestion}
-
--- ---- a reading that goes on has passed its tests
-module _ (a s : ℕ) (q : Program) where
-  pub demand-passed : (b : Bool) (n place : ℕ) (on : Reading) → demand b n place on ≡ reading a s q → T b × (on ≡ reading a s q)
-  demand-passed true n place on e = (tt, e)
-  demand-passed false n place on e = absurd (eqb-false 0 1 refl cc)
-
-  pub range-passed : (bs : List Bool) (n at : ℕ) (on : Reading) → inRange bs n at on ≡ reading a s q → T (allOf bs) × (on ≡ reading a s q)
-  unfolding inRange allOf
-  range-passed [] n at on e = (tt, e)
-  range-passed (b ∷ bs) n at on e =
-      let d = demand-passed b n at _ e in
-      let r = range-passed bs n (suc at) on (d .1) in
-      (both b (allOf bs) (d .0) (r .0), r .1)
-    where
-      both : (b c : Bool) → T b → T c → T (b && c)
-      both true c t u = u
-      both false c t u = t
-
-  pub mark-passed : (f : List ℕ) (at b c n : ℕ) (on : Reading) → marked f at b c n on ≡ reading a s q → on ≡ reading a s q
-  unfolding marked
-  mark-passed f at b c n on e = demand-passed (eqb (byteAt f at) b && eqb (byteAt f (at + 1)) c) 2 at on (demand-passed (leb (at + 2 + n) (length f)) 1 at _ e .1) .1
+use Rattle.program.specs.File.{withQuestion}
 
 -- ---- a code of which r instructions are read
 pub record Filled (r : ℕ) (c : Code) : Type 0 where
@@ -116,17 +92,27 @@ stores-last c (suc n) k =
     let d = ap (λ (j : ℕ). oneStore (instructionAt c j)) e in
     omega arith
 
+pub stores-next : (c : Code) (k : ℕ) → storesAmong c 0 (suc k) ≡ storesAmong c 0 k + oneStore (instructionAt c k)
+stores-next c k = let e : 0 + k ≡ k = omega arith in let d = ap (λ (j : ℕ). oneStore (instructionAt c j)) e in let l = stores-last c k 0 in omega arith
+
+pub stores-grow : (c : Code) (k n : ℕ) → k ≤ n → storesAmong c 0 k ≤ storesAmong c 0 n
+stores-grow c k n h = let e : k + (n - k) ≡ n = omega arith in subst (λ (j : ℕ). storesAmong c 0 k ≤ storesAmong c 0 j) e (further (n - k))
+  where
+    further : (d : ℕ) → storesAmong c 0 k ≤ storesAmong c 0 (k + d)
+    further zero = let e : k ≡ k + 0 = omega arith in subst (λ (j : ℕ). storesAmong c 0 k ≤ storesAmong c 0 j) e (le-refl _)
+    further (suc d) =
+        let r = further d in
+        let l = stores-next c (k + d) in
+        let e : suc (k + d) ≡ k + suc d = omega arith in
+        subst (λ (j : ℕ). storesAmong c 0 k ≤ storesAmong c 0 j) e (omega arith)
+
 pub stores-fill : (c : Code) (k : ℕ) (x : Instruction) → k < length (c .instructions) → storesAmong (more c k x) 0 (suc k) ≡ storesAmong c 0 k + oneStore x
 stores-fill c k x h =
-    let a = stores-last (more c k x) k 0 in
+    let a = stores-next (more c k x) k in
     let b = stores-same (more c k x) c k 0 (λ j u v. getD-set-other (c .instructions) k j x noInstruction (λ e. omega arith)) in
-    let e : 0 + k ≡ k = omega arith in
-    let d = ap (λ (j : ℕ). oneStore (instructionAt (more c k x) j)) e ∙ ap oneStore (getD-set-same (c .instructions) k x noInstruction h) in
+    let d = ap oneStore (getD-set-same (c .instructions) k x noInstruction h) in
     omega arith
 
 pub stores-of : (q : Program) (n : ℕ) {N : ℕ} → q .threads ≡ N → sumBelow (λ j. storesFrom (codeOf q j) 0) N ≡ stores (withQuestion n (q .question) q)
 unfolding stores codeOf
 stores-of q n e = ap (sumBelow (λ j. storesFrom (codeOf q j) 0)) (sym e)
-
-pub reading-same : {a b s t : ℕ} {p q : Program} → reading a s p ≡ reading b t q → (a ≡ b) × (s ≡ t) × (p ≡ q)
-reading-same {a} {b} {s} {t} {p} {q} e = (cc, cc, cc)

@@ -5,6 +5,7 @@ pub mod First
 pub mod Places
 pub mod Shape
 pub mod ReadBack
+pub mod Kept
 pub mod Filled
 pub mod ReadThreads
 pub mod ReadFormed

@@ -14,9 +14,10 @@ use Rattle.program.specs.Tests.{allOf, sumBelow}
 use Rattle.program.specs.Program.{Instruction, Code, Condition, Program, noInstruction, noCode, noCondition, noProgram, instructionAt, codeOf}
 use Rattle.program.specs.Counts.{oneStore, storesAmong, storesFrom, stores}
 use Rattle.program.specs.WellFormed.{instructionTests, instructionTest, conditionTests, conditionTest, programTest}
-use Rattle.program.specs.File.{refused, program, Reading, reading, byteAt, demand, marked, inRange, withHeader, readHeader, instructionOf, withCode, withInstruction, readInstruction, readInstructions, readThread, readThreads, conditionOf, withQuestion, readCondition, readConditions, readQuestion, readEnd, readBody, readFile}
-use Rattle.program.specs.Encode.{instructionRecord, instructionRecords, threadRecord, threadRecords, conditionRecord, conditionRecords, questionRecords, fileOf}
+use Rattle.program.specs.File.{refused, program, Reading, reading, byteAt, demand, marked, inRange, withHeader, readHeader, instructionOf, withCode, withInstruction, readEach, readInstruction, readThread, conditionOf, withQuestion, readCondition, readQuestion, readEnd, readBody, readFile}
+use Rattle.program.specs.Encode.{eachRecord, instructionRecord, instructionRecords, threadRecord, threadRecords, conditionRecord, conditionRecords, questionRecords, fileOf}
 use Rattle.program.proofs.Counts.{sum-grows}
+use Rattle.program.proofs.Filled.{stores-next, stores-grow}
 use Rattle.program.proofs.Tests.{and-left, and-right, and-both, eq→eqb}
 use Rattle.program.proofs.First.{first, first-length, first-none, first-at, first-next, first-all}
 use Rattle.program.proofs.Places.{At, at-fits, at-byte, at-first, at-second}
@@ -44,6 +45,27 @@ module _ {f : List ℕ} {at : ℕ} (a b : ℕ) (body : List ℕ) (h : At f at (a
       demand-yes (leb (at + 2 + n) (length f)) 1 at _ (le→leb (at + 2 + n) (length f) (omega arith))
       ∙ demand-yes (eqb (byteAt f at) a && eqb (byteAt f (at + 1)) b) 2 at on
       (and-both (eqb (byteAt f at) a) (eqb (byteAt f (at + 1)) b) (eq→eqb (ap (byteAt f) (sym z) ∙ first-byte)) (eq→eqb second-byte))
+
+-- ---- n records: `counted k` stores and the program `so-far k` once k of them are read
+module _ {f : List ℕ} (one : ℕ → ℕ → ℕ → Program → Reading) (bytes : ℕ → List ℕ) (counted : ℕ → ℕ) (so-far : ℕ → Program) (n : ℕ)
+    (reads : (k at : ℕ) → k < n → At f at (bytes k) → one k at (counted k) (so-far k) ≡ reading (at + length (bytes k)) (counted (suc k)) (so-far (suc k))) where
+  read-rest : (m k at : ℕ) → k + m ≡ n → At f at (eachRecord bytes m k)
+      → readEach one m k (reading at (counted k) (so-far k)) ≡ reading (at + length (eachRecord bytes m k)) (counted n) (so-far n)
+  unfolding readEach eachRecord
+  read-rest zero k at e h =
+      let q : k ≡ n = omega arith in
+      let a : at ≡ at + 0 = omega arith in
+      λ j. reading (a j) (counted (q j)) (so-far (q j))
+  read-rest (suc m) k at e h =
+      let rest = eachRecord bytes m (suc k) in
+      let l = length-append (bytes k) rest in
+      let a : at + length (bytes k) + length rest ≡ at + length (bytes k ++ rest) = omega arith in
+      ap (readEach one m (suc k)) (reads k at (omega arith) (at-first (bytes k) rest h))
+      ∙ read-rest m (suc k) (at + length (bytes k)) (omega arith) (at-second (bytes k) rest h)
+      ∙ (λ j. reading (a j) (counted n) (so-far n))
+
+  read-each : (at : ℕ) → At f at (eachRecord bytes n 0) → readEach one n 0 (reading at (counted 0) (so-far 0)) ≡ reading (at + length (eachRecord bytes n 0)) (counted n) (so-far n)
+  read-each at h = read-rest n 0 at (omega arith) h
 
 -- ---- instructions
 instruction-found : {f : List ℕ} {at : ℕ} (x : Instruction) → At f at (instructionRecord x) → instructionOf f at ≡ x
@@ -126,49 +148,40 @@ module _ (p : Program) (o : ProgramShape p) where
     abbrev c : Code
     c = codeOf p i
 
-    read-instructions : (n k at s : ℕ) → k + n ≡ c .count → At f at (instructionRecords c k n) → s + storesAmong c k n ≤ 16
-        → readInstructions f i n k (reading at s (within i k)) ≡ reading (at + length (instructionRecords c k n)) (s + storesAmong c k n) (within i (c .count))
-    unfolding readInstructions instructionRecords storesAmong
-    read-instructions zero k at s e h few =
-        let q : k ≡ c .count = omega arith in
-        let a : at ≡ at + 0 = omega arith in
-        let b : s ≡ s + 0 = omega arith in
-        λ j. reading (a j) (b j) (within i (q j))
-    read-instructions (suc n) k at s e h few =
+    next-instruction : (k at s : ℕ) → k < c .count → At f at (instructionRecord (instructionAt c k)) → s + storesAmong c 0 (c .count) ≤ 16
+        → readInstruction f i k at (s + storesAmong c 0 k) (within i k) ≡ reading (at + 9) (s + storesAmong c 0 (suc k)) (within i (suc k))
+    next-instruction k at s kc here few =
         let x = instructionAt c k in
         let short = o .codes-ok i low .short in
-        let kc : k < c .count = omega arith in
         let counts = ap (λ (d : Code). d .count) (code-within i low k) in
         let t : T (instructionTest ((codeOf (within i k) i) .count) k x) = subst (λ (m : ℕ). T (instructionTest m k x)) (sym counts) (o .codes-ok i low .in-range k kc) in
-        let here = at-first (instructionRecord x) (instructionRecords c (suc k) n) h in
-        let rest = at-second (instructionRecord x) (instructionRecords c (suc k) n) h in
-        let l = length-append (instructionRecord x) (instructionRecords c (suc k) n) in
-        let a1 : at + 9 + length (instructionRecords c (suc k) n) ≡ at + length (instructionRecord x ++ instructionRecords c (suc k) n) = omega arith in
-        let s1 : s + oneStore x + storesAmong c (suc k) n ≡ s + (oneStore x + storesAmong c (suc k) n) = omega arith in
-        ap (readInstructions f i n (suc k)) (read-instruction i k at s (within i k) x here t (omega arith) ∙ ap (reading (at + 9) (s + oneStore x)) (goes-on i low k (omega arith)))
-        ∙ read-instructions n (suc k) (at + 9) (s + oneStore x) (omega arith) rest (omega arith)
-        ∙ (λ j. reading (a1 j) (s1 j) (within i (c .count)))
+        let one = stores-next c k in
+        let g = stores-grow c (suc k) (c .count) kc in
+        let e : s + storesAmong c 0 k + oneStore x ≡ s + storesAmong c 0 (suc k) = omega arith in
+        read-instruction i k at (s + storesAmong c 0 k) (within i k) x here t (omega arith) ∙ (λ j. reading (at + 9) (e j) (goes-on i low k (omega arith) j))
 
     read-thread : (at s : ℕ) → At f at (threadRecord i c) → s + storesFrom c 0 ≤ 16 → readThread f i at s (before i) ≡ reading (at + length (threadRecord i c)) (s + storesFrom c 0) (before (suc i))
-    unfolding readThread storesFrom
+    unfolding readThread storesFrom storesAmong
     read-thread at s h few =
         let head : List ℕ = 0x54 ∷ 0x48 ∷ i ∷ c .count ∷ [] in
-        let here = at-first head (instructionRecords c 0 (c .count)) h in
-        let rest = at-second head (instructionRecords c 0 (c .count)) h in
+        let here = at-first head (instructionRecords c) h in
+        let rest = at-second head (instructionRecords c) h in
         let short = o .codes-ok i low .short in
         let b2 = at-byte here 2 (omega arith) in
         let b3 = at-byte here 3 (omega arith) in
         let z : c .count - 0 ≡ c .count = omega arith in
+        let s0 : s ≡ s + 0 = omega arith in
         let few' : s + storesAmong c 0 (c .count) ≤ 16 = subst (λ (n : ℕ). s + storesAmong c 0 n ≤ 16) z few in
-        let l = length-append head (instructionRecords c 0 (c .count)) in
-        let a1 : at + 4 + length (instructionRecords c 0 (c .count)) ≡ at + length (threadRecord i c) = omega arith in
+        let l = length-append head (instructionRecords c) in
+        let a1 : at + 4 + length (instructionRecords c) ≡ at + length (threadRecord i c) = omega arith in
         let s1 : s + storesAmong c 0 (c .count) ≡ s + storesAmong c 0 (c .count - 0) = ap (λ (n : ℕ). s + storesAmong c 0 n) (sym z) in
         mark-found 0x54 0x48 (i ∷ c .count ∷ []) here 2 _ refl
         ∙ demand-yes (eqb (byteAt f (at + 2)) i) 10 (at + 2) _ (eq→eqb b2)
-        ∙ ap (λ (n : ℕ). demand (leb n 16) 5 (at + 3) (readInstructions f i n 0 (reading (at + 4) s (withCode i (record { count = n; instructions = (codeOf (before i) i) .instructions }) (before i))))) b3
+        ∙ ap (λ (n : ℕ). demand (leb n 16) 5 (at + 3) (readEach (readInstruction f i) n 0 (reading (at + 4) s (withCode i (record { count = n; instructions = (codeOf (before i) i) .instructions }) (before i))))) b3
         ∙ demand-yes (leb (c .count) 16) 5 (at + 3) _ (le→leb (c .count) 16 short)
-        ∙ ap (λ (q : Program). readInstructions f i (c .count) 0 (reading (at + 4) s q)) (starts i low)
-        ∙ read-instructions (c .count) 0 (at + 4) s (omega arith) rest few'
+        ∙ ap (λ (q : Program). readEach (readInstruction f i) (c .count) 0 (reading (at + 4) s q)) (starts i low)
+        ∙ ap (λ (t : ℕ). readEach (readInstruction f i) (c .count) 0 (reading (at + 4) t (within i 0))) s0
+        ∙ read-each (readInstruction f i) _ (λ k. s + storesAmong c 0 k) (within i) (c .count) (λ k a l b. next-instruction k a s l b few') (at + 4) rest
         ∙ (λ j. reading (a1 j) (s1 j) (ends i low j))
 
   -- ---- all threads
@@ -186,25 +199,9 @@ module _ (p : Program) (o : ProgramShape p) where
       omega arith
 
   module _ (f : List ℕ) where
-    read-threads : (n i at : ℕ) → i + n ≡ p .threads → At f at (threadRecords p i n)
-        → readThreads f n i (reading at (storesBefore i) (before i)) ≡ reading (at + length (threadRecords p i n)) (storesBefore (p .threads)) (before (p .threads))
-    unfolding readThreads threadRecords sumBelow
-    read-threads zero i at e h =
-        let q : i ≡ p .threads = omega arith in
-        let a : at ≡ at + 0 = omega arith in
-        λ j. reading (a j) (storesBefore (q j)) (before (q j))
-    read-threads (suc n) i at e h =
-        let few = o .few-threads in
-        let ti : i < p .threads = omega arith in
-        let low : i < 4 = omega arith in
-        let bytes = threadRecord i (codeOf p i) in
-        let here = at-first bytes (threadRecords p (suc i) n) h in
-        let rest = at-second bytes (threadRecords p (suc i) n) h in
-        let l = length-append bytes (threadRecords p (suc i) n) in
-        let a1 : at + length bytes + length (threadRecords p (suc i) n) ≡ at + length (bytes ++ threadRecords p (suc i) n) = omega arith in
-        ap (readThreads f n (suc i)) (read-thread f i low at (storesBefore i) here (stores-so-far i ti))
-        ∙ read-threads n (suc i) (at + length bytes) (omega arith) rest
-        ∙ (λ j. reading (a1 j) (storesBefore (p .threads)) (before (p .threads)))
+    read-threads : (at : ℕ) → At f at (threadRecords p) → readEach (readThread f) (p .threads) 0 (reading at 0 (before 0)) ≡ reading (at + length (threadRecords p)) (storesBefore (p .threads)) (before (p .threads))
+    unfolding sumBelow
+    read-threads = read-each (readThread f) _ storesBefore before (p .threads) (λ i at l h. let few = o .few-threads in read-thread f i (omega arith) at (storesBefore i) h (stores-so-far i l))
 
     -- ---- the question
     condition-found : {at : ℕ} (x : Condition) → At f at (conditionRecord x) → conditionOf f at ≡ x
@@ -229,24 +226,6 @@ module _ (p : Program) (o : ProgramShape p) where
         ∙ in-range-all (conditionTests (p .threads) x) 8 (at + 2) _ (o .conditions-ok k h)
         ∙ ap (λ (l : List Condition). reading (at + 6) s (withQuestion (p .conditions) l (asking k))) (first-next noCondition k (p .question) (omega arith))
 
-    read-conditions : (n k at s : ℕ) → k + n ≡ p .conditions → At f at (conditionRecords p k n)
-        → readConditions f n k (reading at s (asking k)) ≡ reading (at + length (conditionRecords p k n)) s (asking (p .conditions))
-    unfolding readConditions conditionRecords
-    read-conditions zero k at s e h =
-        let q : k ≡ p .conditions = omega arith in
-        let a : at ≡ at + 0 = omega arith in
-        λ j. reading (a j) s (asking (q j))
-    read-conditions (suc n) k at s e h =
-        let bytes = conditionRecord (condition k) in
-        let here = at-first bytes (conditionRecords p (suc k) n) h in
-        let rest = at-second bytes (conditionRecords p (suc k) n) h in
-        let l = length-append bytes (conditionRecords p (suc k) n) in
-        let kc : k < p .conditions = omega arith in
-        let a1 : at + 6 + length (conditionRecords p (suc k) n) ≡ at + length (bytes ++ conditionRecords p (suc k) n) = omega arith in
-        ap (readConditions f n (suc k)) (read-condition k at s kc here)
-        ∙ read-conditions n (suc k) (at + 6) s (omega arith) rest
-        ∙ (λ j. reading (a1 j) s (asking (p .conditions)))
-
     -- after all threads, the codes are there; no condition is
     all-codes : withQuestion (p .conditions) (replicate 8 noCondition) (before (p .threads)) ≡ asking 0
     unfolding codeOf
@@ -267,16 +246,16 @@ module _ (p : Program) (o : ProgramShape p) where
     unfolding readQuestion
     read-question at s h =
         let head : List ℕ = 0x51 ∷ 0x55 ∷ p .conditions ∷ [] in
-        let here = at-first head (conditionRecords p 0 (p .conditions)) h in
-        let rest = at-second head (conditionRecords p 0 (p .conditions)) h in
+        let here = at-first head (conditionRecords p) h in
+        let rest = at-second head (conditionRecords p) h in
         let b2 = at-byte here 2 (omega arith) in
-        let l = length-append head (conditionRecords p 0 (p .conditions)) in
-        let a1 : at + 3 + length (conditionRecords p 0 (p .conditions)) ≡ at + length (questionRecords p) = omega arith in
+        let l = length-append head (conditionRecords p) in
+        let a1 : at + 3 + length (conditionRecords p) ≡ at + length (questionRecords p) = omega arith in
         mark-found 0x51 0x55 (p .conditions ∷ []) here 1 _ refl
-        ∙ ap (λ (n : ℕ). demand (leb n 8) 8 (at + 2) (readConditions f n 0 (reading (at + 3) s (withQuestion n (replicate 8 noCondition) (before (p .threads)))))) b2
+        ∙ ap (λ (n : ℕ). demand (leb n 8) 8 (at + 2) (readEach (readCondition f) n 0 (reading (at + 3) s (withQuestion n (replicate 8 noCondition) (before (p .threads)))))) b2
         ∙ demand-yes (leb (p .conditions) 8) 8 (at + 2) _ (le→leb (p .conditions) 8 (o .few-conditions))
-        ∙ ap (λ (q : Program). readConditions f (p .conditions) 0 (reading (at + 3) s q)) all-codes
-        ∙ read-conditions (p .conditions) 0 (at + 3) s (omega arith) rest
+        ∙ ap (λ (q : Program). readEach (readCondition f) (p .conditions) 0 (reading (at + 3) s q)) all-codes
+        ∙ read-each (readCondition f) _ (λ k. s) asking (p .conditions) (λ k a l b. read-condition k a s l b) (at + 3) rest
         ∙ (λ j. reading (a1 j) s (asking (p .conditions)))
 
     all-read : asking (p .conditions) ≡ p
@@ -303,7 +282,7 @@ pub read-back : (p : Program) → T (programTest p) → readFile (fileOf p) ≡ 
 unfolding readFile readBody readEnd fileOf sumBelow
 read-back p h =
     ap (λ (x : Reading). readEnd f (readQuestion f (readBody f x))) (read-header p o f (at-first head body whole))
-    ∙ ap (λ (x : Reading). readEnd f (readQuestion f x)) (read-threads p o f (p .threads) 0 4 (omega arith) (at-first threads (questionRecords p) behind))
+    ∙ ap (λ (x : Reading). readEnd f (readQuestion f x)) (read-threads p o f 4 (at-first threads (questionRecords p) behind))
     ∙ ap (readEnd f) (read-question p o f (4 + length threads) (storesBefore p o (p .threads)) (at-second threads (questionRecords p) behind))
     ∙ ap (λ (b : Bool). cond b (program (asking p o (p .conditions))) (refused 9 (4 + length threads + length (questionRecords p)))) (eq-eqb (4 + length threads + length (questionRecords p)) (length f) ends-there)
     ∙ ap program (all-read p o f)
@@ -315,7 +294,7 @@ read-back p h =
     head = 0x50 ∷ 0x47 ∷ p .version ∷ p .threads ∷ []
 
     threads : List ℕ
-    threads = threadRecords p 0 (p .threads)
+    threads = threadRecords p
 
     body : List ℕ
     body = threads ++ questionRecords p

@@ -3,20 +3,21 @@
 use mathlib.Core.Path.{_≡_, refl, sym, ap, _∙_, subst}
 use mathlib.Core.Logic.{_≢_}
 use mathlib.Core.List.{List}
-use Prim.Native.Nat.{ℕ, zero, suc, _+_, _*_, _≤_, _<_}
+use Prim.Native.Nat.{ℕ, suc, _+_, _*_, _≤_, _<_}
 use native.Mathlib.Decide.{ℕ-discrete}
 use native.Mathlib.Omega.{arith}
 use lib.Dec.{T, eqb, leb, leb→le}
 use lib.ListN.{length, replicate, length-set}
 use lib.Seq.{getD-set-same, getD-set-other}
-use borrow.Author.Tests.{eqb-false}
 use Rattle.program.specs.Tests.{sumBelow}
 use Rattle.program.specs.Program.{Instruction, Code, Program, noCode, noCondition, codeOf}
 use Rattle.program.specs.Counts.{oneStore, storesAmong, storesFrom}
 use Rattle.program.specs.WellFormed.{instructionTests, instructionTest}
-use Rattle.program.specs.File.{Reading, stopped, reading, byteAt, instructionOf, withCode, withInstruction, readInstruction, readInstructions, readThread, readThreads}
+use Rattle.program.specs.File.{reading, byteAt, instructionOf, withCode, withInstruction, readInstruction, readThread}
+use Rattle.program.specs.Inner.{IfReading}
 use Rattle.program.proofs.Counts.{sum-same}
-use Rattle.program.proofs.Filled.{Filled, demand-passed, range-passed, mark-passed, more, fill, opened, stores-none, stores-all, stores-fill, reading-same}
+use Rattle.program.proofs.Kept.{past-demand, past-mark, past-range, each-keeps}
+use Rattle.program.proofs.Filled.{Filled, more, fill, opened, stores-none, stores-all, stores-fill}
 
 -- ---- the program so far, of N threads
 module _ (N : ℕ) where
@@ -77,16 +78,15 @@ module _ (N : ℕ) where
 
   module _ (f : List ℕ) where
     -- ---- an instruction
-    one-more : (i n k at s : ℕ) (q : Program) (a t : ℕ) (r : Program) → i < 4 → k < n → Within i n k at s q → readInstruction f i k at s q ≡ reading a t r → Within i n (suc k) a t r
+    one-more : (i n k at s : ℕ) (q : Program) → i < 4 → k < n → Within i n k at s q → IfReading (Within i n (suc k)) (readInstruction f i k at s q)
     unfolding readInstruction instructionTest
-    one-more i n k at s q a t r low h w e =
+    one-more i n k at s q low h w =
         let x = instructionOf f at in
-        let m = mark-passed a t r f at 0x49 0x4E 7 _ e in
-        let g = range-passed a t r (instructionTests ((codeOf q i) .count) k x) 6 (at + 2) _ m in
-        let d = demand-passed a t r (leb (s + oneStore x) 16) 7 (at + 2) _ (g .1) in
-        let y = reading-same (d .1) in
-        subst (λ (u : ℕ). Within i n (suc k) u t r) (y .0) (subst (λ (u : ℕ). Within i n (suc k) (at + 9) u r) (y .1) (subst (λ (u : Program). Within i n (suc k) (at + 9) (s + oneStore x) u) (y .2)
-        (filled-in x (g .0) (leb→le (s + oneStore x) 16 (d .0)))))
+        let P = Within i n (suc k) in
+        past-mark P f at 0x49 0x4E 7 _
+        (λ l. past-range P (instructionTests ((codeOf q i) .count) k x) 6 (at + 2) _
+        (λ g. past-demand P (leb (s + oneStore x) 16) 7 (at + 2) _
+        (λ d. filled-in x g (leb→le (s + oneStore x) 16 d))))
       where
         filled-in : (x : Instruction) → T (instructionTest ((codeOf q i) .count) k x) → s + oneStore x ≤ 16 → Within i n (suc k) (at + 9) (s + oneStore x) (withInstruction i k x q)
         filled-in x g few =
@@ -110,34 +110,16 @@ module _ (N : ℕ) where
               place = omega arith;
             }
 
-    -- what is stopped stays stopped
-    instructions-stopped : (i n k x y a t : ℕ) (r : Program) → readInstructions f i n k (stopped x y) ≡ reading a t r → ⊥
-    unfolding readInstructions
-    instructions-stopped i zero k x y a t r e = eqb-false 0 1 refl cc
-    instructions-stopped i (suc n) k x y a t r e = eqb-false 0 1 refl cc
-
-    instructions-read : (i n m k at s : ℕ) (q : Program) (a t : ℕ) (r : Program) → i < 4 → k + m ≡ n → Within i n k at s q → readInstructions f i m k (reading at s q) ≡ reading a t r → Within i n n a t r
-    unfolding readInstructions
-    instructions-read i n zero k at s q a t r low c w e =
-        let y = reading-same e in
-        let z : k ≡ n = omega arith in
-        subst (λ (u : Program). Within i n n a t u) (y .2) (subst (λ (u : ℕ). Within i n n a u q) (y .1) (subst (λ (u : ℕ). Within i n n u s q) (y .0) (subst (λ (u : ℕ). Within i n u at s q) z w)))
-    instructions-read i n (suc m) k at s q a t r low c w e = go (readInstruction f i k at s q) refl e (λ b u v. instructions-read i n m (suc k) b u v a t r low (omega arith))
-      where
-        go : (x : Reading) → readInstruction f i k at s q ≡ x → readInstructions f i m (suc k) x ≡ reading a t r
-            → ((b u : ℕ) (v : Program) → Within i n (suc k) b u v → readInstructions f i m (suc k) (reading b u v) ≡ reading a t r → Within i n n a t r) → Within i n n a t r
-        go (stopped x y) g d rec = absurd (instructions-stopped i m (suc k) x y a t r d)
-        go (reading b u v) g d rec = rec b u v (one-more i n k at s q b u v low (omega arith) w g) d
-
     -- ---- a thread
-    thread-read : (i at s : ℕ) (q : Program) (a t : ℕ) (r : Program) → i < 4 → Before i at s q → readThread f i at s q ≡ reading a t r → Before (suc i) a t r
+    pub thread-read : (i at s : ℕ) (q : Program) → i < 4 → Before i at s q → IfReading (Before (suc i)) (readThread f i at s q)
     unfolding readThread
-    thread-read i at s q a t r low w e =
+    thread-read i at s q low w =
         let n = byteAt f (at + 3) in
-        let m = mark-passed a t r f at 0x54 0x48 2 _ e in
-        let d = demand-passed a t r (eqb (byteAt f (at + 2)) i) 10 (at + 2) _ m in
-        let g = demand-passed a t r (leb n 16) 5 (at + 3) _ (d .1) in
-        closed n (instructions-read i n n 0 (at + 4) s (started n) a t r low (omega arith) (begun n (leb→le n 16 (g .0))) (g .1))
+        let P = Before (suc i) in
+        past-mark P f at 0x54 0x48 2 _
+        (λ l. past-demand P (eqb (byteAt f (at + 2)) i) 10 (at + 2) _
+        (λ d. past-demand P (leb n 16) 5 (at + 3) _
+        (λ g. each-keeps (readInstruction f i) (Within i n) n (λ k a t r. one-more i n k a t r low) P (closed n) (reading (at + 4) s (started n)) (begun n (leb→le n 16 g)))))
       where
         started : ℕ → Program
         started n = withCode i (record { count = n; instructions = (codeOf q i) .instructions }) q
@@ -161,8 +143,8 @@ module _ (N : ℕ) where
               place = omega arith;
             }
 
-        closed : (n : ℕ) → Within i n n a t r → Before (suc i) a t r
-        closed n v =
+        closed : (n a t : ℕ) (r : Program) → Within i n n a t r → Before (suc i) a t r
+        closed n a t r v =
             let size = v .total in
             let short = v .now .short in
             let sa = stores-all (codeOf r i) n size in
@@ -181,22 +163,3 @@ module _ (N : ℕ) where
             each : (j : ℕ) → Dec (j ≡ i) → j < suc i → Filled ((codeOf r j) .count) (codeOf r j)
             each j (yes u) l = subst (λ (m : ℕ). Filled ((codeOf r m) .count) (codeOf r m)) (sym u) (subst (λ (m : ℕ). Filled m (codeOf r i)) (sym (v .total)) (v .now))
             each j (no u) l = v .done j (omega arith)
-
-    -- ---- all threads
-    threads-stopped : (n i x y a t : ℕ) (r : Program) → readThreads f n i (stopped x y) ≡ reading a t r → ⊥
-    unfolding readThreads
-    threads-stopped zero i x y a t r e = eqb-false 0 1 refl cc
-    threads-stopped (suc n) i x y a t r e = eqb-false 0 1 refl cc
-
-    pub threads-read : (n m i at s : ℕ) (q : Program) (a t : ℕ) (r : Program) → i + m ≡ n → n ≤ 4 → Before i at s q → readThreads f m i (reading at s q) ≡ reading a t r → Before n a t r
-    unfolding readThreads
-    threads-read n zero i at s q a t r c l w e =
-        let y = reading-same e in
-        let z : i ≡ n = omega arith in
-        subst (λ (u : Program). Before n a t u) (y .2) (subst (λ (u : ℕ). Before n a u q) (y .1) (subst (λ (u : ℕ). Before n u s q) (y .0) (subst (λ (u : ℕ). Before u at s q) z w)))
-    threads-read n (suc m) i at s q a t r c l w e = go (readThread f i at s q) refl e (λ b u v. threads-read n m (suc i) b u v a t r (omega arith) l)
-      where
-        go : (x : Reading) → readThread f i at s q ≡ x → readThreads f m (suc i) x ≡ reading a t r
-            → ((b u : ℕ) (v : Program) → Before (suc i) b u v → readThreads f m (suc i) (reading b u v) ≡ reading a t r → Before n a t r) → Before n a t r
-        go (stopped x y) g d rec = absurd (threads-stopped m (suc i) x y a t r d)
-        go (reading b u v) g d rec = rec b u v (thread-read i at s q b u v (omega arith) w g) d

@@ -11,7 +11,7 @@ use Rattle.program.specs.Program.{Program, noCondition, codeOf}
 use Rattle.program.specs.Counts.{oneStore, storesAmong, storesFrom, stores}
 use Rattle.program.specs.WellFormed.{modeLimit, modeTest, registerTest, kindTest, numberTest, instructionTest, conditionTest, unusedInstruction, unusedCondition, codeTest, programTest}
 use Rattle.program.specs.File.{program, readFile}
-use Rattle.program.specs.Encode.{instructionRecords, threadRecords, conditionRecords, fileOf}
+use Rattle.program.specs.Encode.{eachRecord, fileOf}
 use Rattle.program.proofs.ReadBack.{read-back}
 use Rattle.program.proofs.ReadFormed.{read-formed}
 
@@ -35,5 +35,5 @@ largest-formed = tt
 
 -- 647 BYTES ARE READ
 pub attained : (readFile (fileOf largest) ≡ program largest) × (length (fileOf largest) ≡ 647)
-unfolding codeOf instructionRecords threadRecords conditionRecords fileOf
+unfolding codeOf eachRecord fileOf
 attained = (read-back largest largest-formed, refl)

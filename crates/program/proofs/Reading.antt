@@ -13,7 +13,7 @@ use Rattle.program.specs.Tests.{allOf}
 use Rattle.program.specs.Program.{Instruction, Code, Condition, Program, noProgram, codeOf}
 use Rattle.program.specs.Counts.{oneStore}
 use Rattle.program.specs.WellFormed.{instructionTests, conditionTests}
-use Rattle.program.specs.File.{Reading, stopped, reading, byteAt, demand, marked, inRange, withHeader, withCode, withInstruction, withQuestion, instructionOf, conditionOf, readHeader, readInstruction, readInstructions, readThread, readCondition, readConditions, readQuestion}
+use Rattle.program.specs.File.{Reading, stopped, reading, byteAt, demand, marked, inRange, withHeader, withCode, withInstruction, withQuestion, instructionOf, conditionOf, readHeader, readEach, readInstruction, readThread, readCondition, readQuestion}
 use Rattle.program.specs.Inner.{unless, firstFailing}
 
 -- ---- a record's start
@@ -155,7 +155,7 @@ module _ (f : List ℕ) (i at s : ℕ) (p : Program) (r : ℕ) (e : Fault f at 0
       thread-5 l = fault-goes f at 0x54 0x48 2 r e g _ ∙ rw (eq-eqb _ _ h, lt-leb _ _ l)
 
       pub thread-on : byteAt f (at + 3) ≤ 16 → (q : Program) → q ≡ withCode i (record { count = byteAt f (at + 3); instructions = (codeOf p i) .instructions }) p
-          → readThread f i at s p ≡ readInstructions f i (byteAt f (at + 3)) 0 (reading (at + 4) s q)
+          → readThread f i at s p ≡ readEach (readInstruction f i) (byteAt f (at + 3)) 0 (reading (at + 4) s q)
       unfolding readThread
       thread-on l q eq = fault-goes f at 0x54 0x48 2 r e g _ ∙ rw (eq-eqb _ _ h, le-leb _ _ l, eq)
 
@@ -189,6 +189,6 @@ module _ (f : List ℕ) (at s : ℕ) (p : Program) (r : ℕ) (e : Fault f at 0x5
     question-8 h = fault-goes f at 0x51 0x55 1 r e g _ ∙ rw (lt-leb _ _ h)
 
     pub question-on : byteAt f (at + 2) ≤ 8 → (q : Program) → q ≡ withQuestion (byteAt f (at + 2)) (p .question) p
-        → readQuestion f (reading at s p) ≡ readConditions f (byteAt f (at + 2)) 0 (reading (at + 3) s q)
+        → readQuestion f (reading at s p) ≡ readEach (readCondition f) (byteAt f (at + 2)) 0 (reading (at + 3) s q)
     unfolding readQuestion
     question-on h q eq = fault-goes f at 0x51 0x55 1 r e g _ ∙ rw (le-leb _ _ h, eq)

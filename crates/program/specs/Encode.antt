@@ -5,35 +5,37 @@ use Prim.Native.Nat.{ℕ, zero, suc}
 use lib.ListN.{getD}
 use Rattle.program.specs.Program.{Instruction, Code, Condition, Program, noCondition, instructionAt, codeOf}
 
+-- n records from number k on, each by its number
+unfoldable pub eachRecord : (ℕ → List ℕ) → ℕ → ℕ → List ℕ
+eachRecord one zero k = []
+eachRecord one (suc n) k = one k ++ eachRecord one n (suc k)
+
 abbrev pub instructionRecord : Instruction → List ℕ
 instructionRecord x = 0x49 ∷ 0x4E ∷ x .op ∷ x .m ∷ x .r ∷ x .k1 ∷ x .n1 ∷ x .k2 ∷ x .n2 ∷ []
 
--- n instructions of a thread from k on
-unfoldable pub instructionRecords : Code → ℕ → ℕ → List ℕ
-instructionRecords c k zero = []
-instructionRecords c k (suc n) = instructionRecord (instructionAt c k) ++ instructionRecords c (suc k) n
+-- all instructions of a thread
+abbrev pub instructionRecords : Code → List ℕ
+instructionRecords c = eachRecord (λ k. instructionRecord (instructionAt c k)) (c .count) 0
 
 -- thread i, followed by its instructions
 abbrev pub threadRecord : ℕ → Code → List ℕ
-threadRecord i c = (0x54 ∷ 0x48 ∷ i ∷ c .count ∷ []) ++ instructionRecords c 0 (c .count)
+threadRecord i c = (0x54 ∷ 0x48 ∷ i ∷ c .count ∷ []) ++ instructionRecords c
 
--- n threads from i on
-unfoldable pub threadRecords : Program → ℕ → ℕ → List ℕ
-threadRecords p i zero = []
-threadRecords p i (suc n) = threadRecord i (codeOf p i) ++ threadRecords p (suc i) n
+-- all threads of a program
+abbrev pub threadRecords : Program → List ℕ
+threadRecords p = eachRecord (λ i. threadRecord i (codeOf p i)) (p .threads) 0
 
 abbrev pub conditionRecord : Condition → List ℕ
 conditionRecord q = 0x43 ∷ 0x4E ∷ q .kind ∷ q .thread ∷ q .index ∷ q .value ∷ []
 
--- n conditions from k on
-unfoldable pub conditionRecords : Program → ℕ → ℕ → List ℕ
-conditionRecords p k zero = []
-conditionRecords p k (suc n) = conditionRecord (getD (p .question) k noCondition) ++ conditionRecords p (suc k) n
+-- all conditions of a program
+abbrev pub conditionRecords : Program → List ℕ
+conditionRecords p = eachRecord (λ k. conditionRecord (getD (p .question) k noCondition)) (p .conditions) 0
 
 -- the question, followed by its conditions
 abbrev pub questionRecords : Program → List ℕ
-questionRecords p = (0x51 ∷ 0x55 ∷ p .conditions ∷ []) ++ conditionRecords p 0 (p .conditions)
+questionRecords p = (0x51 ∷ 0x55 ∷ p .conditions ∷ []) ++ conditionRecords p
 
 -- THE FILE OF A PROGRAM
 unfoldable pub fileOf : Program → List ℕ
-fileOf p = (0x50 ∷ 0x47 ∷ p .version ∷ p .threads ∷ []) ++ (threadRecords p 0 (p .threads) ++ questionRecords p)
+fileOf p = (0x50 ∷ 0x47 ∷ p .version ∷ p .threads ∷ []) ++ (threadRecords p ++ questionRecords p)

@@ -40,6 +40,12 @@ unfoldable pub inRange : List Bool → ℕ → ℕ → Reading → Reading
 inRange [] n at on = on
 inRange (b ∷ bs) n at on = demand b n at (inRange bs n (suc at) on)
 
+-- n records from number k on, each read by `one` from its number, the place, the stores and the program so far; a refusal ends it
+unfoldable pub readEach : (ℕ → ℕ → ℕ → Program → Reading) → ℕ → ℕ → Reading → Reading
+readEach one zero k x = x
+readEach one (suc n) k (stopped number place) = stopped number place
+readEach one (suc n) k (reading at s p) = readEach one n (suc k) (one k at s p)
+
 -- ---- program record: 50 47, version 1 (else 3), threads 1..4 (else 4)
 abbrev pub withHeader : ℕ → ℕ → Program → Program
 withHeader v n p = record { version = v; threads = n; codes = p .codes; conditions = p .conditions; question = p .question }
@@ -80,26 +86,14 @@ readInstruction f i k at s p =
     (demand (leb (s + oneStore x) 16) 7 (at + 2)
     (reading (at + 9) (s + oneStore x) (withInstruction i k x p))))
 
--- the n instructions of thread i from k on
-unfoldable pub readInstructions : List ℕ → ℕ → ℕ → ℕ → Reading → Reading
-readInstructions f i zero k x = x
-readInstructions f i (suc n) k (stopped number place) = stopped number place
-readInstructions f i (suc n) k (reading at s p) = readInstructions f i n (suc k) (readInstruction f i k at s p)
-
--- ---- thread record: 54 48, number, counting from 0 (else 10), instructions 0..16 (else 5)
+-- ---- thread record: 54 48, number, counting from 0 (else 10), instructions 0..16 (else 5), which follow
 unfoldable pub readThread : List ℕ → ℕ → ℕ → ℕ → Program → Reading
 readThread f i at s p =
     let n = byteAt f (at + 3) in
     marked f at 0x54 0x48 2
     (demand (eqb (byteAt f (at + 2)) i) 10 (at + 2)
     (demand (leb n 16) 5 (at + 3)
-    (readInstructions f i n 0 (reading (at + 4) s (withCode i (record { count = n; instructions = (codeOf p i) .instructions }) p)))))
-
--- the n threads from i on, each followed by its instructions
-unfoldable pub readThreads : List ℕ → ℕ → ℕ → Reading → Reading
-readThreads f zero i x = x
-readThreads f (suc n) i (stopped number place) = stopped number place
-readThreads f (suc n) i (reading at s p) = readThreads f n (suc i) (readThread f i at s p)
+    (readEach (readInstruction f i) n 0 (reading (at + 4) s (withCode i (record { count = n; instructions = (codeOf p i) .instructions }) p)))))
 
 -- ---- condition record: 43 4E, kind, thread, index, value (a byte out of range: 8)
 abbrev pub conditionOf : List ℕ → ℕ → Condition
@@ -115,20 +109,14 @@ readCondition f k at s p =
     (inRange (conditionTests (p .threads) x) 8 (at + 2)
     (reading (at + 6) s (withQuestion (p .conditions) (set (p .question) k x) p)))
 
--- the n conditions from k on
-unfoldable pub readConditions : List ℕ → ℕ → ℕ → Reading → Reading
-readConditions f zero k x = x
-readConditions f (suc n) k (stopped number place) = stopped number place
-readConditions f (suc n) k (reading at s p) = readConditions f n (suc k) (readCondition f k at s p)
-
--- ---- question record: 51 55, conditions 0..8 (else 8)
+-- ---- question record: 51 55, conditions 0..8 (else 8), which follow
 unfoldable pub readQuestion : List ℕ → Reading → Reading
 readQuestion f (stopped number place) = stopped number place
 readQuestion f (reading at s p) =
     let n = byteAt f (at + 2) in
     marked f at 0x51 0x55 1
     (demand (leb n 8) 8 (at + 2)
-    (readConditions f n 0 (reading (at + 3) s (withQuestion n (p .question) p))))
+    (readEach (readCondition f) n 0 (reading (at + 3) s (withQuestion n (p .question) p))))
 
 -- ---- the end: bytes after the last condition are 9, at the first extra byte
 unfoldable pub readEnd : List ℕ → Reading → FileAnswer
@@ -138,7 +126,7 @@ readEnd f (reading at s p) = cond (eqb at (length f)) (program p) (refused 9 at)
 -- all threads of a program whose header is read
 unfoldable pub readBody : List ℕ → Reading → Reading
 readBody f (stopped number place) = stopped number place
-readBody f (reading at s p) = readThreads f (p .threads) 0 (reading at s p)
+readBody f (reading at s p) = readEach (readThread f) (p .threads) 0 (reading at s p)
 
 -- THE READING OF A FILE
 unfoldable pub readFile : List ℕ → FileAnswer

@@ -1,4 +1,4 @@
--- What the functions of programs promise each other: faults as numbers, codes whose branches land, stores.
+-- What the functions of programs promise each other: readings that go on, faults as numbers, codes whose branches land, stores.
 -- Assumes nothing.
 use mathlib.Core.Path.{_≡_}
 use mathlib.Core.Bool.{Bool, cond}
@@ -6,8 +6,14 @@ use mathlib.Core.List.{List, [], _∷_}
 use mathlib.Core.Option.{some}
 use Prim.Native.Nat.{ℕ, suc, _+_, _≤_}
 use lib.Dec.{eqb, ltb}
-use Rattle.program.specs.Program.{Code, Operand, Instr, Compute, Load, Store, Branch, Fence, instrAt}
-use Rattle.program.specs.File.{Reading, stopped}
+use Rattle.program.specs.Program.{Code, Program, Operand, Instr, Compute, Load, Store, Branch, Fence, instrAt}
+use Rattle.program.specs.File.{Reading, stopped, reading}
+
+-- ---- readings
+-- P of the place, the stores and the program, if the reading goes on
+abbrev pub IfReading : (ℕ → ℕ → Program → Type 0) → Reading → Type 0
+IfReading P (stopped number place) = Unit
+IfReading P (reading at s p) = P at s p
 
 -- ---- faults as numbers
 -- a record's start: no fault for 0, else the refusal with that number
