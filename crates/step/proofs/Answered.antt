@@ -10,7 +10,7 @@ use Rattle.program.specs.WellFormed.{programTest}
 use Rattle.program.proofs.Tests.{and-both, is-true}
 use Rattle.machine.specs.WellFormed.{machineTest}
 use Rattle.machine.specs.Inner.{Formed}
-use Rattle.step.specs.Below.{Code, Program, Memory, Thread, Machine}
+use Rattle.certify_runs.specs.Below.{Code, Program, Memory, Thread, Machine}
 use Rattle.step.specs.Step.{Step, Decision, rejected, accepted, ruleStep, step}
 use Rattle.step.specs.Answers.{Taken, Refused, Stepped, stepped}
 use Rattle.step.specs.Inner.{Moved, memoryAfter, Remembers, decision, Here, Moves}

@@ -18,7 +18,7 @@ use Rattle.machine.proofs.Effects.{Effect, moves}
 use Rattle.machine.proofs.Formed.{MachineOk, machine-iff}
 use Rattle.certify_runs.proofs.Fit.{takes, promises-fit}
 use Rattle.certify_runs.specs.Inner.{outstanding}
-use Rattle.step.specs.Below.{Code, Program, Instr, Memory, Thread, Machine}
+use Rattle.certify_runs.specs.Below.{Code, Program, Instr, Memory, Thread, Machine}
 use Rattle.step.specs.Step.{Step, accepted, step}
 use Rattle.step.specs.Inner.{left, potential}
 use Rattle.step.proofs.Backwards.{moved, promisedMemory, promisedThread, Did, executed, promised, did}

@@ -29,7 +29,7 @@ use Rattle.certify_runs.specs.Runs.{Run, Certifying, done, by, own}
 use Rattle.certify_runs.proofs.Iff.{certified-iff}
 use Rattle.certify_runs.proofs.Fit.{Owned, owned, own-effect}
 use Rattle.certify_runs.proofs.Dead.{Dead, dead-ends}
-use Rattle.step.specs.Below.{Code, Program, Operand, Instr, Compute, Load, Store, Branch, Fence, Message, Memory, Thread, Machine}
+use Rattle.certify_runs.specs.Below.{Code, Program, Operand, Instr, Compute, Load, Store, Branch, Fence, Message, Memory, Thread, Machine}
 use Rattle.step.specs.Step.{Step, rejected, settleRule, executeInstr, executeStep, promiseStep, kindStep, ruleStep, step}
 use Rattle.step.specs.Reached.{Reached, start, on}
 use Rattle.step.proofs.Backwards.{moved, promisedMemory, promisedThread, Did, executed, did}

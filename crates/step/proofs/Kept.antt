@@ -8,7 +8,7 @@ use Rattle.machine.specs.State.{fresh}
 use Rattle.machine.specs.WellFormed.{machineTest}
 use Rattle.machine.proofs.Formed.{MachineOk, machine-iff}
 use Rattle.machine.proofs.Kept.{fresh-ok, executed-ok, promised-ok}
-use Rattle.step.specs.Below.{Program, Machine}
+use Rattle.certify_runs.specs.Below.{Program, Machine}
 use Rattle.step.specs.Step.{Step, accepted, step}
 use Rattle.step.specs.Reached.{Reached, start, on}
 use Rattle.step.proofs.Backwards.{Did, executed, promised, did}

@@ -23,7 +23,7 @@ use Rattle.machine.proofs.Effects.{loadLocation, loadPreView, loadPostView, Eff
 use Rattle.machine.proofs.Formed.{MachineOk, machine-iff}
 use Rattle.certify_runs.specs.Certify.{certified}
 use Rattle.certify_runs.proofs.Dead.{Dead, dead-run}
-use Rattle.step.specs.Below.{Program, Operand, LoadMode, Instr, Load, Memory, Forward, Thread, Machine}
+use Rattle.certify_runs.specs.Below.{Program, Operand, LoadMode, Instr, Load, Memory, Forward, Thread, Machine}
 use Rattle.step.specs.Step.{Step, Decision, rejected, accepted, check, settle, settleRule, executeInstr, executeStep, kindStep, ruleStep, step}
 use Rattle.step.specs.Order.{execution}
 use Rattle.step.specs.Reached.{Reached, start, on}

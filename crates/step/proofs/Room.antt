@@ -28,7 +28,7 @@ use Rattle.certify_runs.proofs.Iff.{certified-iff}
 use Rattle.certify_runs.proofs.Fit.{fits, promises-fit}
 use Rattle.certify_runs.proofs.Limit.{roomier-append, unlimited-is-certifying}
 use Rattle.certify_runs.specs.Inner.{outstanding}
-use Rattle.step.specs.Below.{Code, Program, Instr, Message, Memory, Thread, Machine}
+use Rattle.certify_runs.specs.Below.{Code, Program, Instr, Message, Memory, Thread, Machine}
 use Rattle.step.specs.Step.{Step, Decision, rejected, check, settle, promiseStep, kindStep, ruleStep, step}
 use Rattle.step.specs.Order.{promise}
 use Rattle.step.specs.Reached.{Reached, start, on}

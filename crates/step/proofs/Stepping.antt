@@ -25,7 +25,7 @@ use Rattle.certify_runs.specs.Runs.{done}
 use Rattle.certify_runs.proofs.Iff.{certified-iff}
 use Rattle.certify_runs.specs.Inner.{Ready}
 use Rattle.certify_runs.proofs.Ready.{ready-here, ready-after}
-use Rattle.step.specs.Below.{Code, Program, Instr, Message, Memory, Thread, Machine}
+use Rattle.certify_runs.specs.Below.{Code, Program, Instr, Message, Memory, Thread, Machine}
 use Rattle.step.specs.Step.{Step, rejected, accepted, settle, settleRule, executeInstr, executeStep, promiseStep, kindStep, ruleStep, step}
 use Rattle.step.specs.Answers.{Taken, Refused, Stepped, stepped}
 use Rattle.step.specs.Inner.{Moved, promisedBy, memoryAfter, Remembers, placed, decision, Here, Settles, Executes, Promises, PromisesKept, Moves}

@@ -1,7 +1,7 @@
 -- The answer of a step for the code: taken, or the refusal number, beside the machine.
 -- Assumes nothing.
 use Prim.Native.Nat.{ℕ}
-use Rattle.step.specs.Below.{Machine}
+use Rattle.certify_runs.specs.Below.{Machine}
 use Rattle.step.specs.Step.{Decision, rejected, accepted}
 pub use Rattle.step.specs.declared.StepAnswer.{StepAnswer}
 pub use Rattle.step.specs.declared.StepAnswer.the-variants.{Taken, Refused}

@@ -12,7 +12,7 @@ use Rattle.machine.specs.State.{threadOf, append}
 use Rattle.machine.specs.Rules.{addPromise}
 use Rattle.certify_runs.specs.Certify.{certified}
 use Rattle.certify_runs.specs.Inner.{outstanding}
-use Rattle.step.specs.Below.{Code, Program, Message, Memory, Thread, Machine}
+use Rattle.certify_runs.specs.Below.{Code, Program, Message, Memory, Thread, Machine}
 use Rattle.step.specs.Step.{Step, Decision, rejected, accepted, settle, executeStep, promiseStep, kindStep}
 use Rattle.step.specs.Answers.{StepAnswer, Taken, Refused}
 pub use Rattle.step.specs.declared.Moved.{Moved}

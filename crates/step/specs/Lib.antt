@@ -1,4 +1,3 @@
-pub mod Below
 pub mod Step
 pub mod Order
 pub mod Outcome

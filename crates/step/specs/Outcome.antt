@@ -7,7 +7,8 @@ use lib.ListN.{getD}
 use Rattle.program.specs.Tests.{below}
 use Rattle.program.specs.Program.{noCondition, codeOf}
 use Rattle.machine.specs.State.{freshRegister, threadOf, messageAt}
-use Rattle.step.specs.Below.{Condition, Program, Memory, Machine}
+use Rattle.program.specs.declared.Condition.{Condition}
+use Rattle.certify_runs.specs.Below.{Program, Memory, Machine}
 
 -- every thread is at its end with no promise left
 unfoldable pub complete : Program → Machine → Bool

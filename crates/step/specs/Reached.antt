@@ -2,7 +2,7 @@
 -- Assumes nothing.
 use mathlib.Core.Path.{_≡_}
 use Rattle.machine.specs.State.{fresh}
-use Rattle.step.specs.Below.{Program, Machine}
+use Rattle.certify_runs.specs.Below.{Program, Machine}
 use Rattle.step.specs.Step.{Step, accepted, step}
 
 pub data Reached (p : Program) : Machine → Type 0 where

@@ -11,7 +11,7 @@ use Rattle.machine.specs.State.{threadOf, append}
 use Rattle.machine.specs.Rules.{Executed, refused, next, execute, addPromise}
 use Rattle.machine.specs.WellFormed.{machineTest}
 use Rattle.certify_runs.specs.Certify.{certified}
-use Rattle.step.specs.Below.{Program, Instr, Memory, Thread, Machine}
+use Rattle.certify_runs.specs.Below.{Program, Instr, Memory, Thread, Machine}
 use Rattle.step.specs.declared.TraceStep.{TraceStep}
 
 -- a step, as a trace has it: kind, thread, a, b
