@@ -1,23 +1,34 @@
 //! The proved judge of Armv8 litmus programs, for Rust programs.
 //!
 //! ```text
-//! match blyskota::search(&file, 1_000_000)? {
+//! match blyskota::search(&file, u64::MAX)? {
 //!     Answer::Allowed { trace, .. } => ..,
 //!     Answer::Forbidden { count } => ..,
 //!     Answer::NotFinished { .. } => ..,
 //! }
 //! ```
 //!
+//! `examples/search.rs` is a whole program of this kind. Beside the search there are:
+//!
+//! - [`Program::read`], which reads a program file, and [`Program::instructions`] and
+//!   [`Program::conditions`], which say what is in it; printed, they look as in a listing;
+//! - [`Machine::step`] and [`Machine::certify`], one step at a time, and [`replay`], a whole trace;
+//! - [`Why`], [`Refused`] and [`ReplayRefused`], which say in words what is refused, and where.
+//!
 //! The answers come from the archive `target/staticlib/libcapi.a`, whose calls are proved; this
 //! crate passes slices in and takes answers apart.
 
 pub mod calls;
+mod instruction;
 mod machine;
+mod program;
 mod refusal;
 mod replay;
 mod search;
 
+pub use instruction::{Fence, Instruction, LoadMode, Operand, Operation, StoreMode};
 pub use machine::{Machine, Message, Thread};
+pub use program::{Condition, Program};
 pub use refusal::{Refused, Why};
 pub use replay::{replay, File, ReplayRefused, Replayed};
 pub use search::{search, search_within, Answer, TABLE};
@@ -26,36 +37,6 @@ pub use search::{search, search_within, Answer, TABLE};
 pub const PROGRAM: usize = 487;
 /// Bytes of a machine value.
 pub const MACHINE: usize = 341;
-
-/// A program value, as the reader gives it.
-#[derive(Clone, PartialEq, Eq, Debug)]
-pub struct Program([u8; PROGRAM]);
-
-impl Program {
-    /// Reads a program file.
-    pub fn read(file: &[u8]) -> Result<Program, Refused> {
-        let mut answer = [0; 8 + PROGRAM];
-        served(calls::read(file, &mut answer));
-        match answer[0] {
-            0 => Ok(Program(array(&answer, 8))),
-            number => Err(Refused { why: Why(number), place: number_at(&answer, 4) }),
-        }
-    }
-
-    /// Any bytes are a value; steps on one that no file gives are refused with 20.
-    pub fn from_bytes(bytes: [u8; PROGRAM]) -> Program {
-        Program(bytes)
-    }
-
-    pub fn as_bytes(&self) -> &[u8; PROGRAM] {
-        &self.0
-    }
-
-    /// How many threads it has.
-    pub fn threads(&self) -> u8 {
-        self.0[1]
-    }
-}
 
 /// A step of the machine.
 #[derive(Clone, Copy, PartialEq, Eq, Debug)]

@@ -38,7 +38,7 @@ const THREADS: usize = 49;
 const THREAD: usize = 73;
 
 impl Machine {
-    /// The machine before any step: "All starts at 0 and empty."
+    /// The machine before any step: no message, every register and view 0, no promise.
     pub fn fresh() -> Machine {
         Machine([0; MACHINE])
     }

@@ -1,5 +1,7 @@
 //! Replaying a trace file on a program file.
 
+use std::fmt;
+
 use crate::{array, calls, number_at, served, Machine, Why, MACHINE};
 
 /// A trace whose every step was accepted.
@@ -21,7 +23,7 @@ pub enum File {
 }
 
 /// A refused replay: where, why, and how far it came.
-#[derive(Clone, PartialEq, Eq, Debug)]
+#[derive(Clone, PartialEq, Eq)]
 pub struct ReplayRefused {
     pub why: Why,
     pub file: File,
@@ -34,7 +36,37 @@ pub struct ReplayRefused {
     pub machine: Box<Machine>,
 }
 
-/// Replays the trace from the fresh machine; "the first refusal ends the replay".
+impl fmt::Display for ReplayRefused {
+    fn fmt(&self, out: &mut fmt::Formatter) -> fmt::Result {
+        let ReplayRefused { why, file, index, place, steps, .. } = self;
+        let (name, record) = match file {
+            File::Program => ("program", String::new()),
+            File::Trace => ("trace", format!(" (record {index}, counted from 0)")),
+        };
+        let taken = match steps {
+            0 => "before any step".to_string(),
+            1 => "after 1 step".to_string(),
+            _ => format!("after {steps} steps"),
+        };
+        let Why(number) = why;
+        write!(
+            out,
+            "the {name} file is refused with {number} at byte {place}{record}, {taken}: {}",
+            why.meaning()
+        )
+    }
+}
+
+/// In words too: an error that `main` returns is printed by `Debug`.
+impl fmt::Debug for ReplayRefused {
+    fn fmt(&self, out: &mut fmt::Formatter) -> fmt::Result {
+        fmt::Display::fmt(self, out)
+    }
+}
+
+impl std::error::Error for ReplayRefused {}
+
+/// Replays the trace from the fresh machine, until its end or its first refusal.
 pub fn replay(file: &[u8], trace: &[u8]) -> Result<Replayed, ReplayRefused> {
     let mut answer = [0; 16 + MACHINE];
     served(calls::replay(file, trace, &mut answer));

@@ -1,4 +1,4 @@
-//! The wrapper on document 01's own examples.
+//! The wrapper's calls on an empty program and on one of two threads, and its errors in words.
 
 use blyskota::{
     replay, search, search_within, trace_file, Answer, File, Machine, Message, Program, Refused,
@@ -7,7 +7,7 @@ use blyskota::{
 
 const EMPTY: &[u8] = &[0x50, 0x47, 1, 1, 0x54, 0x48, 0, 0, 0x51, 0x55, 0];
 
-/// E: "thread 0 is S, thread 1 loads r0 from 0", asked for a value of r0.
+/// Thread 0 stores 1 at location 0, thread 1 loads r0 from there; asked for a value of r0.
 fn e(value: u8) -> Vec<u8> {
     let mut file = vec![0x50, 0x47, 1, 2];
     file.extend([0x54, 0x48, 0, 1, 0x49, 0x4E, 2, 0, 0, 0, 0, 0, 1]);
@@ -63,7 +63,7 @@ fn a_refused_search_leaves_the_table() {
 
 #[test]
 fn steps() {
-    let program = Program::read(&e(1)).expect("E");
+    let program = Program::read(&e(1)).expect("a good file");
     assert_eq!(program.threads(), 2);
     let mut machine = Machine::fresh();
     assert_eq!(machine.step(&program, RUN[1]), Err(Why(26)));
@@ -87,5 +87,62 @@ fn replays() {
         replay(&e(1), &trace_file(&[RUN[0], RUN[0]])).expect_err("one store, two promises");
     assert_eq!((why, file, index, place, steps), (Why(29), File::Trace, 1, 6, 1));
     assert_eq!(machine.messages().len(), 1);
-    assert_eq!(why.to_string(), "refused 29: thread not certified after the step");
+}
+
+/// What an error says, which is the same as what it says when `main` returns it.
+fn words(error: impl std::error::Error) -> String {
+    assert_eq!(format!("{error:?}"), error.to_string());
+    error.to_string()
+}
+
+#[test]
+fn refusals_in_words() {
+    let machine = Machine::fresh();
+    let program = Program::read(&e(1)).expect("a good file");
+    assert_eq!(
+        words(
+            machine.step(&program, Step::Promise { thread: 1, location: 0, value: 1 }).expect_err("a load")
+        ),
+        "refused 29: alone, the thread could not keep its promises after the step"
+    );
+    assert_eq!(
+        words(machine.certify(&program, 2).expect_err("two threads")),
+        "refused 21: there is no such thread"
+    );
+    assert_eq!(
+        words(search(&EMPTY[..4], 1).expect_err("half a file")),
+        "the program file is refused with 1 at byte 4: the input ends before or inside a record that is needed"
+    );
+}
+
+#[test]
+fn refused_replays_in_words() {
+    let said = |file: &[u8], trace: &[u8]| words(replay(file, trace).expect_err("a refused replay"));
+    assert_eq!(
+        said(&[EMPTY, &[0]].concat(), &trace_file(&RUN)),
+        "the program file is refused with 9 at byte 11, before any step: bytes follow the last condition"
+    );
+    assert_eq!(
+        said(&e(1), b"SP"),
+        "the trace file is refused with 1 at byte 0 (record 0, counted from 0), before any step: \
+         the input ends before or inside a record that is needed"
+    );
+    assert_eq!(
+        said(&e(1), &trace_file(&[RUN[0], RUN[0]])),
+        "the trace file is refused with 29 at byte 6 (record 1, counted from 0), after 1 step: \
+         alone, the thread could not keep its promises after the step"
+    );
+    assert_eq!(
+        said(&e(1), &[&trace_file(&RUN[..2])[..], b"ST\x02\x00\x00\x00"].concat()),
+        "the trace file is refused with 22 at byte 12 (record 2, counted from 0), after 2 steps: \
+         the kind of the step is above 1, or b is not 0 in an execution"
+    );
+}
+
+#[test]
+fn every_refusal_has_a_meaning() {
+    for number in 0..=255 {
+        let known = matches!(number, 1..=10 | 20..=30);
+        assert_eq!(Why(number).meaning() != "no refusal has this number", known, "{number}");
+    }
 }
