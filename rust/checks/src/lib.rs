@@ -1,5 +1,5 @@
 //! Two sides answer the same calls, and every byte is compared: the library, whose calls are proved,
-//! and the twin, which was written from document 01 alone.
+//! and the twin, which was written from the buyer's scope paper without a look at the proved code.
 
 pub mod batches;
 mod table;
@@ -26,7 +26,7 @@ pub trait Side {
     ) -> u32;
 }
 
-/// Document 01 in Rust.
+/// The rules in Rust.
 pub struct Twin;
 
 impl Side for Twin {

@@ -9,7 +9,7 @@ use twin::litmus::{examples, vectors};
 const JUDGE: &str = concat!(env!("CARGO_MANIFEST_DIR"), "/../../target/bin/judge");
 const BAD_BUDGET: &str = "judge: the budget is a decimal number from 0 to 18446744073709551615, or all\n";
 
-/// Document 01's E, with the question r0 = 1 of thread 1.
+/// A store of 1 to location 0 in one thread, a load of it in the other; the question is whether that gives 1.
 fn e() -> Vec<u8> {
     b"PG\x01\x02TH\x00\x01IN\x02\x00\x00\x00\x00\x00\x01TH\x01\x01IN\x01\x00\x00\x00\x00\x00\x00QU\x01CN\x00\x01\x00\x01".to_vec()
 }
@@ -51,7 +51,7 @@ fn complains(arguments: &[&str], expected: &str) {
 }
 
 #[test]
-fn the_example_of_document_01() {
+fn the_printed_example() {
     prints(&e(), &[], "verdict allowed\ncount 5\npromise 0 0 1\nexecute 0 1\nexecute 1 1\n");
 }
 

@@ -22,7 +22,7 @@ impl Take<'_> {
     }
 }
 
-/// "version, threads, 4 x (instruction count, 16 x 7 bytes), condition count, 8 x 4 bytes"
+/// Version and thread count, four threads of a count and 16 instructions, condition count, 8 conditions.
 pub fn program_from(bytes: &[u8; PROGRAM]) -> Program {
     let mut take = Take(bytes);
     Program {
@@ -53,7 +53,7 @@ pub fn program_bytes(program: &Program) -> [u8; PROGRAM] {
     bytes.try_into().expect("the parts make up the length")
 }
 
-/// "message count; 16 x (location, value, thread); 4 x (thread)"
+/// Message count, 16 messages, four threads.
 pub fn machine_from(bytes: &[u8; MACHINE]) -> Machine {
     let mut take = Take(bytes);
     let mut memory = Memory { count: take.byte(), ..Memory::default() };
@@ -63,8 +63,8 @@ pub fn machine_from(bytes: &[u8; MACHINE]) -> Machine {
     Machine { memory, thread: std::array::from_fn(|_| thread_from(&mut take)) }
 }
 
-/// "position; 8 x (value, view); 16 x coherence view; 16 x (forward time, forward view); rOld,
-/// wOld, rNew, wNew, CAP, Rel; promises, low byte first"
+/// Position, 8 registers, 16 coherence views, 16 forward pairs, the six other views, and two bytes of
+/// promises, the low one first.
 fn thread_from(take: &mut Take) -> Thread {
     Thread {
         position: take.byte(),

@@ -15,7 +15,7 @@ pub const CERTIFY_ANSWER: usize = 2;
 pub const REPLAY_ANSWER: usize = 16 + MACHINE;
 pub const SEARCH_ANSWER: usize = 12;
 pub const SEARCH_WITHIN_ANSWER: usize = 16;
-/// "lent trace area under 480 bytes" is refusal 30.
+/// A search is refused by 30 where it is lent less for the trace.
 pub const TRACE_AREA: usize = 480;
 
 /// Writes the answer where the area has room for it.
@@ -39,9 +39,9 @@ fn values(program: &[u8], machine: &[u8], area: &[u8], answer: usize) -> Result<
     Ok((program_from(program), machine_from(machine)))
 }
 
-/// "refusal (0 none), 3 zero bytes, place u32, then the program value"
+/// The refusal number or 0, three bytes 0, four of the place, the program value.
 pub fn read(file: &[u8], answer: &mut [u8]) -> u32 {
-    // "A refused program file gives a program .. of all 0".
+    // The program of a refused file is all 0.
     let (number, place, program) = match program::read(file) {
         Ok(program) => (0, 0, program),
         Err(refused) => (refused.number, refused.place as u32, Program::default()),
@@ -52,7 +52,7 @@ pub fn read(file: &[u8], answer: &mut [u8]) -> u32 {
     write(answer, &bytes)
 }
 
-/// "refusal (0 accepted), then the machine value", as it was where the step is refused
+/// The refusal number or 0, the machine value: as it was, where the step is refused.
 pub fn step(program: &[u8], machine: &[u8], step: Step, answer: &mut [u8]) -> u32 {
     let (program, machine) = match values(program, machine, answer, STEP_ANSWER) {
         Ok(values) => values,
@@ -67,7 +67,7 @@ pub fn step(program: &[u8], machine: &[u8], step: Step, answer: &mut [u8]) -> u3
     write(answer, &bytes)
 }
 
-/// "refusal, certified (0 or 1)"
+/// The refusal number or 0, whether the thread is certified.
 pub fn certify(program: &[u8], machine: &[u8], thread: u8, answer: &mut [u8]) -> u32 {
     let (program, machine) = match values(program, machine, answer, CERTIFY_ANSWER) {
         Ok(values) => values,
@@ -80,8 +80,8 @@ pub fn certify(program: &[u8], machine: &[u8], thread: u8, answer: &mut [u8]) ->
     write(answer, &bytes)
 }
 
-/// "refusal, the file it is in (0 none, 1 program, 2 trace), complete, holds, steps u32, index u32,
-/// place u32, machine value"
+/// The refusal number or 0 and its file (1 program, 2 trace), whether complete and whether it holds, four
+/// bytes each of the steps, the index and the place, the machine value.
 pub fn replay(file: &[u8], trace: &[u8], answer: &mut [u8]) -> u32 {
     if answer.len() < REPLAY_ANSWER {
         return 1;
@@ -100,7 +100,7 @@ pub fn replay(file: &[u8], trace: &[u8], answer: &mut [u8]) -> u32 {
     write(answer, &bytes)
 }
 
-/// "verdict, refusal, steps, 0, place u32, count u32"
+/// What `searched` gives, with the count in four bytes.
 pub fn search(file: &[u8], budget: u32, area: &mut [u8], answer: &mut [u8]) -> u32 {
     if answer.len() < SEARCH_ANSWER {
         return 1;
@@ -110,7 +110,7 @@ pub fn search(file: &[u8], budget: u32, area: &mut [u8], answer: &mut [u8]) -> u
     write(answer, &[&bytes[..], &(count as u32).to_le_bytes()].concat())
 }
 
-/// "verdict, refusal, steps, 0, place u32, count u64". The lent table, of any length and content, is
+/// What `searched` gives, with the count in eight bytes. The lent table, of any length and content, is
 /// all 0 afterwards; the twin keeps what it knows in memory of its own.
 pub fn search_within(file: &[u8], budget: u64, area: &mut [u8], table: &mut [u8], answer: &mut [u8]) -> u32 {
     if answer.len() < SEARCH_WITHIN_ANSWER {
@@ -124,9 +124,8 @@ pub fn search_within(file: &[u8], budget: u64, area: &mut [u8], table: &mut [u8]
     write(answer, &[&bytes[..], &count.to_le_bytes()].concat())
 }
 
-/// "verdict (0 refused, 1 allowed, 2 forbidden, 3 not finished), refusal, steps, 0, place u32", and
-/// the count, which the two searches write in different widths; "When allowed, the trace takes the
-/// first 6 bytes per step of the lent area".
+/// The verdict, 0 where refused, the refusal number or 0, the steps, a byte 0 and four of the place; and
+/// the count, which the two searches write in different widths. A trace is left at the front of the area.
 fn searched(file: &[u8], area: &mut [u8], search: impl FnOnce(&Program) -> Found) -> ([u8; 8], u64) {
     let program = match program::read(file) {
         Ok(program) => program,
@@ -142,7 +141,7 @@ fn searched(file: &[u8], area: &mut [u8], search: impl FnOnce(&Program) -> Found
     (search_bytes(verdict_byte(found.verdict), 0, found.trace.len() as u8, 0), found.count)
 }
 
-/// "1 allowed, 2 forbidden, 3 not finished"
+/// The byte that stands for a verdict; 0 is left for refused files.
 pub fn verdict_byte(verdict: Verdict) -> u8 {
     match verdict {
         Verdict::Allowed => 1,

@@ -1,5 +1,5 @@
-//! "Certified: alone on that memory, by executing instructions, the thread can reach an empty
-//! promise set, now or later." Once in the paper's words, once quickly; the tests hold them equal.
+//! Certification: whether the thread can still keep all its promises with no other thread running.
+//! Once as the rules say it, once quickly; the tests hold them equal.
 
 use std::collections::HashSet;
 
@@ -8,8 +8,8 @@ use crate::machine::{Memory, Thread};
 use crate::program::Code;
 use crate::rules::{common_view, decode, execute, local, Instr, Load, Store};
 
-/// The literal test: "each load tries every time from 0 upward, and each try goes on with the next
-/// instruction". Steps inside it are not certified themselves.
+/// The literal test: all times of every load, and all that can follow each. Steps inside it are not
+/// certified themselves.
 pub fn certified(code: &Code, number: u8, thread: &Thread, memory: &Memory) -> bool {
     if thread.promises == 0 {
         return true;
@@ -25,7 +25,7 @@ pub fn certified(code: &Code, number: u8, thread: &Thread, memory: &Memory) -> b
     (0..=memory.count).any(goes_on) || appends(code, number, thread, memory, &instr)
 }
 
-/// "or appends its own message and fulfils it at once (only if fewer than 16 messages stand)".
+/// The other way of a store: it writes a message that was not promised, where memory has room.
 fn appends(code: &Code, number: u8, thread: &Thread, memory: &Memory, instr: &Instr) -> bool {
     let Instr::Store { release, address, data } = *instr else {
         return false;

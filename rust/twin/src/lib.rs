@@ -1,5 +1,6 @@
-//! Document 01 in Rust, written from the document alone. It shares no line and no idea with the
-//! proved code, so where the two agree byte for byte, a mistake would have to be made twice.
+//! The rules in Rust, written from the buyer's scope paper alone, which is not in this repository, and
+//! without a look at the proved code. The two share no line and no idea, so where they agree byte for
+//! byte, a mistake would have to be made twice.
 //!
 //! Data flows one way: bytes, program, rules, certification, step, replay and search, answers.
 

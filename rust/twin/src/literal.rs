@@ -1,4 +1,4 @@
-//! The search in the paper's words: every execution time and all 16 times 256 promises are tried.
+//! The search as the rules say it: every execution time and all 16 times 256 promises are tried.
 //! It is slow, and it is what the quick search is held to.
 
 use std::ops::ControlFlow;
@@ -15,7 +15,7 @@ struct Literal<'a> {
     trace: Vec<Step>,
 }
 
-/// The answer of the search on a program, with its trace if "allowed".
+/// The answer of the search on a program, with its trace if allowed.
 pub fn search(program: &Program, budget: u64) -> Found {
     let mut literal = Literal { program, budget, count: 0, trace: Vec::new() };
     let verdict = match literal.visit(&Machine::default()) {
@@ -27,9 +27,9 @@ pub fn search(program: &Program, budget: u64) -> Found {
 }
 
 impl Literal<'_> {
-    /// "An accepted sequence comes before its extensions".
+    /// Visits the sequence that leads to this machine, then all that go on from it.
     fn visit(&mut self, machine: &Machine) -> ControlFlow<Verdict> {
-        // "every sequence visited, the empty one first, costs one"
+        // Each takes one off the budget, the empty one too.
         if self.count == self.budget {
             return ControlFlow::Break(Verdict::NotFinished);
         }
@@ -37,8 +37,7 @@ impl Literal<'_> {
         if complete(self.program, machine) && holds(self.program, machine) {
             return ControlFlow::Break(Verdict::Allowed);
         }
-        // "threads ascending; within one, executions by time ascending, then promises by location,
-        // then value"
+        // Thread after thread: all its executions, then all its promises.
         for thread in 0..self.program.threads {
             for time in 0..=16 {
                 self.go_on(machine, Step { kind: 0, thread, a: time, b: 0 })?;

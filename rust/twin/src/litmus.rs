@@ -24,7 +24,7 @@ pub fn examples() -> Vec<Vector> {
     include_str!("../../../programs/examples.txt").lines().map(vector).collect()
 }
 
-/// "name, verdict, count, hex of the program file".
+/// Reads a line: name, verdict, count and the program file in hex.
 pub fn vector(line: &'static str) -> Vector {
     let fields: Vec<&str> = line.split(' ').collect();
     let [name, verdict, count, hex] = fields[..] else { panic!("four fields: {line}") };

@@ -1,10 +1,10 @@
-//! "The machine": memory, threads, the outcome question, and the machine's well-formedness.
+//! The machine: memory, threads, the outcome question, and the machine's well-formedness.
 
 use std::hash::{Hash, Hasher};
 
 use crate::program::Program;
 
-/// "a list of messages (location, value, thread) at times 1, 2, .. up to 16"; time t is entry t - 1.
+/// The messages in the order of their times, which begin with 1; time t is entry t - 1.
 #[derive(Clone, Copy, PartialEq, Eq, Hash, Debug, Default)]
 pub struct Memory {
     pub count: u8,
@@ -13,21 +13,21 @@ pub struct Memory {
     pub thread: [u8; 16],
 }
 
-/// "eight registers, each a value and a view".
+/// What a register holds, and what that depends on.
 #[derive(Clone, Copy, PartialEq, Eq, Debug, Default)]
 pub struct Register {
     pub value: u8,
     pub view: u8,
 }
 
-/// "a forward pair (time, view) per location".
+/// The thread's last store to a location: its time, and the view with which the thread itself reads it.
 #[derive(Clone, Copy, PartialEq, Eq, Debug, Default)]
 pub struct Forward {
     pub time: u8,
     pub view: u8,
 }
 
-/// "All starts at 0 and empty."
+/// The state of a thread; a fresh one is all 0.
 #[derive(Clone, Copy, PartialEq, Eq, Debug, Default)]
 pub struct Thread {
     pub position: u8,
@@ -40,7 +40,7 @@ pub struct Thread {
     pub w_new: u8,
     pub cap: u8,
     pub rel: u8,
-    /// "a set of at most 16 times": bit t - 1 for time t.
+    /// The outstanding ones: bit t - 1 for time t.
     pub promises: u16,
 }
 
@@ -51,8 +51,8 @@ pub struct Machine {
 }
 
 impl Memory {
-    /// The times at which the location has a message: bit t for time t, and bit 0 since
-    /// "time 0 holds value 0 at every location".
+    /// The times at which the location has a message: bit t for time t, and bit 0, since before all
+    /// messages every location holds 0.
     #[inline]
     pub fn times_of(&self, location: u8) -> u32 {
         let mut times = 0;
@@ -72,7 +72,7 @@ impl Memory {
         }
     }
 
-    /// "the message is appended"; the caller knows that fewer than 16 stand.
+    /// Adds a message behind the others; the caller knows that fewer than 16 stand.
     #[inline]
     pub fn append(&mut self, location: u8, value: u8, thread: u8) -> u8 {
         let index = self.count as usize & 15;
@@ -100,7 +100,7 @@ impl Memory {
         self.thread[index] = 0;
     }
 
-    /// "A location's last value is that of its newest message, 0 if there is none."
+    /// What the location holds after all messages.
     pub fn last_value(&self, location: u8) -> u8 {
         self.value_at(31 - self.times_of(location).leading_zeros() as u8)
     }
@@ -117,7 +117,7 @@ impl Thread {
         self.promises |= 1 << (time - 1);
     }
 
-    /// "The promise is taken out".
+    /// The promise is kept: it is outstanding no longer.
     #[inline]
     pub fn take_out(&mut self, time: u8) {
         self.promises &= !(1 << (time - 1));
@@ -136,7 +136,7 @@ impl Hash for Thread {
     }
 }
 
-/// "every thread is at its end with no promise left".
+/// Whether all threads have run to their end and kept what they promised.
 pub fn complete(program: &Program, machine: &Machine) -> bool {
     (0..program.threads as usize).all(|number| {
         let thread = &machine.thread[number];
@@ -144,7 +144,7 @@ pub fn complete(program: &Program, machine: &Machine) -> bool {
     })
 }
 
-/// "All conditions must hold; none at all is true."
+/// Whether every condition of the question is met, as it is where there are none.
 pub fn holds(program: &Program, machine: &Machine) -> bool {
     program.condition[..program.conditions as usize].iter().all(|condition| {
         let value = match condition.kind {
@@ -168,7 +168,7 @@ pub fn well_formed(program: &Program, machine: &Machine) -> bool {
         })
 }
 
-/// "at most 16 messages with location below 16 and an existing thread", "unused entries 0".
+/// Each message has one of the 16 locations and one of the program's threads; all behind the last is 0.
 fn memory_well_formed(program: &Program, memory: &Memory) -> bool {
     memory.count <= 16
         && (0..16).all(|index| {
@@ -181,8 +181,8 @@ fn memory_well_formed(program: &Program, memory: &Memory) -> bool {
         })
 }
 
-/// "every view and forward time at most the message count; positions within the thread;
-/// promises only at this thread's messages".
+/// Nothing is later than the newest message, the position is no further than the end, and only own
+/// messages are promised.
 fn thread_well_formed(thread: &Thread, number: u8, instructions: u8, memory: &Memory) -> bool {
     let views = [thread.r_old, thread.w_old, thread.r_new, thread.w_new, thread.cap, thread.rel];
     let own = |time: u8| time <= memory.count && memory.thread[time as usize - 1] == number;

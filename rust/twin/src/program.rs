@@ -1,4 +1,4 @@
-//! "Program file": the program value, its reader (refusals 1 to 10) and its well-formedness.
+//! Program files: the program value, its reader (refusals 1 to 10) and its well-formedness.
 
 pub const COMPUTE: u8 = 0;
 pub const LOAD: u8 = 1;
@@ -6,7 +6,7 @@ pub const STORE: u8 = 2;
 pub const BRANCH: u8 = 3;
 pub const FENCE: u8 = 4;
 
-/// "op, m, r, k1, n1, k2, n2", as the file has them.
+/// The bytes op, m, r, k1, n1, k2 and n2, as the file has them.
 pub type Instruction = [u8; 7];
 
 /// One thread's instructions; unused entries are 0.
@@ -16,7 +16,7 @@ pub struct Code {
     pub instructions: [Instruction; 16],
 }
 
-/// "kind, thread, index, value".
+/// One condition of the question, as the file has it.
 #[derive(Clone, Copy, PartialEq, Eq, Debug, Default)]
 pub struct Condition {
     pub kind: u8,
@@ -45,14 +45,15 @@ fn refuse<T>(number: u8, place: usize) -> Result<T, Refused> {
     Err(Refused { number, place })
 }
 
-/// "Files are read front to back": the file and how far it is read.
+/// The file and how far it is read; nothing is read twice.
 struct Reader<'a> {
     file: &'a [u8],
     at: usize,
 }
 
 impl Reader<'_> {
-    /// The next record's body and its place: "per record 1, then 2", both at "the record's first byte".
+    /// The next record's body and its place. The record is refused at its mark: by 1 if the file is too
+    /// short for it, else by 2 if the mark is another.
     fn record<const N: usize>(&mut self, mark: [u8; 2]) -> Result<([u8; N], usize), Refused> {
         let start = self.at;
         let end = start + 2 + N;
@@ -69,7 +70,7 @@ impl Reader<'_> {
     }
 }
 
-/// The reader: "program, thread, each followed by its instructions, question, condition".
+/// The reader: first the header, then the threads, the question and nothing behind it.
 pub fn read(file: &[u8]) -> Result<Program, Refused> {
     let mut reader = Reader { file, at: 0 };
     let mut program = Program::default();
@@ -93,7 +94,7 @@ pub fn read(file: &[u8]) -> Result<Program, Refused> {
     Ok(program)
 }
 
-/// "number, counting from 0; instructions 0..16", and "at most 16 stores stand in a file".
+/// A thread, which must be the next, with its instructions; `stores` counts those of the whole file.
 fn read_thread(reader: &mut Reader, next: u8, stores: &mut u8) -> Result<Code, Refused> {
     let ([number, count], place) = reader.record([0x54, 0x48])?;
     if number != next {
@@ -117,7 +118,7 @@ fn read_thread(reader: &mut Reader, next: u8, stores: &mut u8) -> Result<Code, R
     Ok(code)
 }
 
-/// "conditions 0..8", then each condition.
+/// The question: the number of its conditions, then each of them.
 fn read_question(reader: &mut Reader, program: &mut Program) -> Result<(), Refused> {
     let ([count], place) = reader.record([0x51, 0x55])?;
     if count > 8 {
@@ -135,8 +136,8 @@ fn read_question(reader: &mut Reader, program: &mut Program) -> Result<(), Refus
     Ok(())
 }
 
-/// The first byte that is "out of range, or an unused one not 0"; `after` instructions follow.
-/// A branch's "target may be the thread's end but not beyond".
+/// The first byte that is larger than it may be, if one is; `after` instructions follow, and a branch
+/// can pass over no more than these.
 fn offending_byte(instruction: &Instruction, after: u8) -> Option<usize> {
     let [op, _, _, k1, _, k2, _] = *instruction;
     let most_m = match op {
@@ -153,7 +154,7 @@ fn offending_byte(instruction: &Instruction, after: u8) -> Option<usize> {
     (0..7).find(|&byte| instruction[byte] > most[byte])
 }
 
-/// Kind 0: "thread below the thread count, index 0..7"; kind 1: "thread 0, index 0..15".
+/// The same of a condition: kind 0 is about a register of a thread, kind 1 about a location.
 fn offending_condition_byte(condition: &[u8; 4], threads: u8) -> Option<usize> {
     let most = match condition[0] {
         0 => [1, threads - 1, 7, 255],
@@ -162,7 +163,7 @@ fn offending_condition_byte(condition: &[u8; 4], threads: u8) -> Option<usize> {
     (0..4).find(|&byte| condition[byte] > most[byte])
 }
 
-/// "a program the reader could give", "unused entries 0".
+/// Whether a file can be read as this program, of which all that is not used is 0.
 pub fn well_formed(program: &Program) -> bool {
     program.version == 1
         && (1..=4).contains(&program.threads)

@@ -1,4 +1,4 @@
-//! Trace files: "Per step the mark 53 54, then kind, thread, a, b."
+//! Trace files: a record of six bytes for each step, and their replay.
 
 use crate::machine::{complete, holds, Machine};
 use crate::program::{self, Program};
@@ -11,7 +11,7 @@ pub enum In {
     Trace,
 }
 
-/// "Replay's refusal says which file it is in; in the trace the index counts from 0".
+/// A refusal of either file; `index` is how many records of the trace come before.
 #[derive(Clone, Copy, PartialEq, Eq, Debug)]
 pub struct Refusal {
     pub file: In,
@@ -20,8 +20,7 @@ pub struct Refusal {
     pub place: u32,
 }
 
-/// "the number of steps taken, the machine, whether it is complete, and whether it is complete and
-/// the question holds".
+/// The answer of a replay; what is not complete does not hold either.
 #[derive(Clone, Copy, PartialEq, Eq, Debug)]
 pub struct Replayed {
     pub refusal: Option<Refusal>,
@@ -43,12 +42,12 @@ pub fn replay(file: &[u8], trace: &[u8]) -> Replayed {
     }
 }
 
-/// "both yes-or-no answers being no".
+/// After a refusal nothing is complete and nothing holds.
 fn refused_after(refusal: Refusal, steps: u32, machine: Machine) -> Replayed {
     Replayed { refusal: Some(refusal), steps, complete: false, holds: false, machine }
 }
 
-/// "The first refusal ends the replay."
+/// Takes the steps one by one, up to the first that is refused.
 fn replay_program(program: &Program, trace: &[u8]) -> Replayed {
     let mut machine = Machine::default();
     let mut steps = 0;
@@ -67,7 +66,7 @@ fn replay_program(program: &Program, trace: &[u8]) -> Replayed {
     Replayed { refusal: None, steps, complete, holds, machine }
 }
 
-/// "In a trace, 1 and 2 come first for a record".
+/// The step of a record, which refusals 1 and 2 are about; what the step itself may do is tested later.
 fn read_step(record: &[u8]) -> Result<Step, u8> {
     let &[first, second, kind, thread, a, b] = record else {
         return Err(1);

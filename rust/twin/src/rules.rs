@@ -1,17 +1,17 @@
-//! The rules of document 01, "The machine": what one instruction needs and what it changes.
+//! The machine's rules: what one instruction needs and what it changes.
 //! A thread's own state and the memory decide everything; certification is not done here.
 
 use crate::machine::{Forward, Memory, Register, Thread};
 use crate::program::{Instruction, BRANCH, COMPUTE, LOAD, STORE};
 
-/// "An operand (k, n) is a constant (k = 0) or a register (k = 1)."
+/// Two bytes of an instruction: by the first, the second is a value or names a register.
 #[derive(Clone, Copy, PartialEq, Eq, Debug)]
 pub enum Operand {
     Constant(u8),
     Register(u8),
 }
 
-/// "m = 0 plain, 1 acquire, 2 weak acquire".
+/// How a load reads, in the order in which byte m counts them.
 #[derive(Clone, Copy, PartialEq, Eq, Debug)]
 pub enum Mode {
     Plain,
@@ -60,13 +60,13 @@ pub fn decode(instruction: &Instruction) -> Instr {
     }
 }
 
-/// "Raised by" means merged into the view by taking the larger.
+/// A view only grows: the other is taken where it is larger.
 #[inline]
 pub fn raise(view: &mut u8, by: u8) {
     *view = (*view).max(by);
 }
 
-/// "The view of a constant is 0, of a register its own".
+/// What an operand is worth. A constant depends on no message, so it has view 0.
 #[inline]
 fn operand(thread: &Thread, operand: Operand) -> Register {
     match operand {
@@ -75,7 +75,7 @@ fn operand(thread: &Thread, operand: Operand) -> Register {
     }
 }
 
-/// "m = 0 add, 1 subtract, 2 exclusive or, 3 equal (1 or 0)"; "modulo 256".
+/// The result of a compute, by its byte m. Sums and differences wrap, as bytes do.
 pub fn computed(how: u8, left: u8, right: u8) -> u8 {
     match how {
         0 => left.wrapping_add(right),
@@ -96,13 +96,13 @@ pub struct Load {
 }
 
 impl Load {
-    /// "from the sum of both operands"; "An address is reduced modulo 16".
+    /// The sum of the operands names one of the 16 locations, by its remainder.
     #[inline]
     pub fn of(thread: &Thread, mode: Mode, into: u8, left: Operand, right: Operand) -> Load {
         let (left, right) = (operand(thread, left), operand(thread, right));
         let location = left.value.wrapping_add(right.value) % 16;
         let address_view = left.view.max(right.view);
-        // "Pre-view: the larger of address view and rNew, and for acquire (not weak) also Rel."
+        // It comes after its address and rNew; an acquire, unlike a weak one, also after Rel.
         let mut pre_view = address_view;
         raise(&mut pre_view, thread.r_new);
         if mode == Mode::Acquire {
@@ -111,20 +111,20 @@ impl Load {
         Load { mode, into, location, address_view, pre_view }
     }
 
-    /// The end of the forbidden span: "the larger of pre-view and coherence view".
+    /// The end of the forbidden span: as far as the load or its location has come.
     #[inline]
     fn span_end(&self, thread: &Thread) -> u8 {
         self.pre_view.max(thread.coherence[self.location as usize & 15])
     }
 
-    /// Refusals 26 and 27, in the paper's words.
+    /// Refusals 26 and 27, one after the other.
     pub fn allowed(&self, thread: &Thread, memory: &Memory, time: u8) -> Result<(), u8> {
         let here = |time: u8| memory.location[time as usize - 1] == self.location;
-        // "The message at t must be at the address, or t = 0."
+        // Time 0 is there for every location; another time needs a message of this one.
         if time > memory.count || time > 0 && !here(time) {
             return Err(26);
         }
-        // "No message to that location may have a time above t and up to the larger of .."
+        // A newer message of the location within the span must not be passed over.
         if (time + 1..=self.span_end(thread)).any(here) {
             return Err(27);
         }
@@ -143,17 +143,17 @@ impl Load {
     #[inline]
     pub fn done(&self, thread: &mut Thread, memory: &Memory, time: u8) {
         let at = self.location as usize & 15;
-        // "Read view: the forward view if t equals the forward time, else t."
+        // The thread's own last store there counts with the view that was noted for it.
         let forward = thread.forward[at];
         let read_view = if time == forward.time { forward.view } else { time };
-        // "Post-view: larger of pre-view and read view."
+        // What comes after the load comes after both.
         let post_view = self.pre_view.max(read_view);
-        // "r takes value and post-view; the location's coherence view and rOld are raised by it"
+        // Register, location and rOld have come as far.
         let value = memory.value_at(time);
         thread.register[self.into as usize & 7] = Register { value, view: post_view };
         raise(&mut thread.coherence[at], post_view);
         raise(&mut thread.r_old, post_view);
-        // "for both acquires rNew and wNew too; CAP is raised by the address view."
+        // Either acquire orders all accesses after it; CAP keeps what the address depends on.
         if self.mode != Mode::Plain {
             raise(&mut thread.r_new, post_view);
             raise(&mut thread.w_new, post_view);
@@ -163,7 +163,7 @@ impl Load {
     }
 }
 
-/// What the pre-view of every store has of the thread, "wNew and CAP"; it only grows.
+/// What the pre-view of every store has of the thread; it only grows.
 #[inline]
 pub fn common_view(thread: &Thread) -> u8 {
     let mut view = thread.w_new;
@@ -183,13 +183,13 @@ pub struct Store {
 }
 
 impl Store {
-    /// "operand 1 is the address, operand 2 the data".
+    /// The first operand says where, the second what.
     #[inline]
     pub fn of(thread: &Thread, release: bool, address: Operand, data: Operand) -> Store {
         let (address, data) = (operand(thread, address), operand(thread, data));
         let (location, value) = (address.value % 16, data.value);
         let (address_view, data_view) = (address.view, data.view);
-        // "Pre-view: largest of address view, data view, wNew and CAP, and for release also rOld and wOld."
+        // It comes after address, data, wNew and CAP; a release also after all accesses before it.
         let mut pre_view = address_view;
         raise(&mut pre_view, data_view);
         raise(&mut pre_view, common_view(thread));
@@ -200,15 +200,15 @@ impl Store {
         Store { release, location, value, address_view, data_view, pre_view }
     }
 
-    /// The larger of the two views that "must both be below t".
+    /// The larger of the two views that the time has to exceed.
     #[inline]
     pub fn floor(&self, thread: &Thread) -> u8 {
         self.pre_view.max(thread.coherence[self.location as usize & 15])
     }
 
-    /// Refusals 26 and 28, in the paper's words.
+    /// Refusals 26 and 28, one after the other.
     pub fn allowed(&self, thread: &Thread, memory: &Memory, time: u8) -> Result<(), u8> {
-        // "t must be an outstanding promise of this thread with this location and value"
+        // The thread has promised just this at the time, and not yet kept it.
         let written = |index: usize| (memory.location[index], memory.value[index]);
         if !thread.has_promised(time) || written(time as usize - 1) != (self.location, self.value) {
             return Err(26);
@@ -238,21 +238,21 @@ impl Store {
     pub fn done(&self, thread: &mut Thread, time: u8) {
         let at = self.location as usize & 15;
         thread.take_out(time);
-        // "coherence view and wOld are raised by t, for release also Rel; CAP by the address view"
+        // Location and wOld, and for a release Rel, have come as far; CAP keeps what the address depends on.
         raise(&mut thread.coherence[at], time);
         raise(&mut thread.w_old, time);
         if self.release {
             raise(&mut thread.rel, time);
         }
         raise(&mut thread.cap, self.address_view);
-        // "the forward pair becomes t and the larger of address and data view"
+        // A load of this thread that reads the store depends on no more than its operands.
         let view = self.address_view.max(self.data_view);
         thread.forward[at] = Forward { time, view };
         thread.position += 1;
     }
 }
 
-/// "sets r to the value and the operands' view".
+/// The result depends on all that its operands depend on.
 #[inline]
 pub fn compute(thread: &mut Thread, how: u8, into: u8, left: Operand, right: Operand) {
     let (left, right) = (operand(thread, left), operand(thread, right));
@@ -262,7 +262,7 @@ pub fn compute(thread: &mut Thread, how: u8, into: u8, left: Operand, right: Ope
     thread.position += 1;
 }
 
-/// "raises CAP by the operands' view"; "if the operands are equal, skip the next m instructions".
+/// Taken where the two values are the same; either way CAP keeps what they depend on.
 #[inline]
 pub fn branch(thread: &mut Thread, skip: u8, left: Operand, right: Operand) {
     let (left, right) = (operand(thread, left), operand(thread, right));
@@ -277,23 +277,23 @@ pub fn branch(thread: &mut Thread, skip: u8, left: Operand, right: Operand) {
 #[inline]
 pub fn fence(thread: &mut Thread, fence: Fence) {
     match fence {
-        // "rNew and wNew raised by rOld and wOld"
+        // Reads and writes before it come before those after it.
         Fence::DmbSy => {
             raise(&mut thread.r_new, thread.r_old);
             raise(&mut thread.r_new, thread.w_old);
             raise(&mut thread.w_new, thread.r_old);
             raise(&mut thread.w_new, thread.w_old);
         }
-        // "both raised by rOld"
+        // Reads before it come before reads and writes after it.
         Fence::DmbLd => {
             raise(&mut thread.r_new, thread.r_old);
             raise(&mut thread.w_new, thread.r_old);
         }
-        // "wNew raised by wOld"
+        // Writes before it come before writes after it.
         Fence::DmbSt => {
             raise(&mut thread.w_new, thread.w_old);
         }
-        // "rNew raised by CAP"
+        // Branches and addresses before it come before reads after it.
         Fence::Isb => {
             raise(&mut thread.r_new, thread.cap);
         }
@@ -301,7 +301,7 @@ pub fn fence(thread: &mut Thread, fence: Fence) {
     thread.position += 1;
 }
 
-/// An instruction that is neither load nor store.
+/// An instruction that accesses no memory.
 #[inline]
 pub fn local(instr: &Instr, thread: &mut Thread) {
     match *instr {

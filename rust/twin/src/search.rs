@@ -13,7 +13,7 @@ use crate::program::Program;
 use crate::rules::{local, Instr, Load, Store};
 use crate::step::Step;
 
-/// "allowed", "forbidden" or "not finished".
+/// What a search can say of a question.
 #[derive(Clone, Copy, PartialEq, Eq, Debug)]
 pub enum Verdict {
     Allowed,
@@ -21,7 +21,7 @@ pub enum Verdict {
     NotFinished,
 }
 
-/// "The search answers verdict, count and number of trace steps", here with the steps.
+/// The answer of a search: the verdict, the sequences that were visited for it, and the trace.
 #[derive(Clone, PartialEq, Eq, Debug)]
 pub struct Found {
     pub verdict: Verdict,
@@ -46,7 +46,7 @@ struct Search<'a, K> {
     length: usize,
 }
 
-/// The answer of the search on a program, with its trace if "allowed"; every sequence is visited.
+/// The answer of the search on a program, with its trace if allowed; every sequence is visited.
 pub fn search(program: &Program, budget: u64) -> Found {
     search_with(Nothing, program, budget)
 }
@@ -100,7 +100,7 @@ impl<'a, K: Known> Search<'a, K> {
         ControlFlow::Continue(())
     }
 
-    /// "every sequence visited, the empty one first, costs one": too few left are spent all the same.
+    /// A sequence takes one off the budget: too few left are spent all the same.
     #[inline]
     fn spend(&mut self, sequences: u64) -> ControlFlow<Verdict> {
         if sequences > self.left {
@@ -120,7 +120,7 @@ impl<'a, K: Known> Search<'a, K> {
         }
     }
 
-    /// "executions by time ascending"
+    /// The executions of a thread, the earliest time first.
     #[inline]
     fn executions(&mut self, number: usize) -> ControlFlow<Verdict> {
         let thread = self.machine.thread[number];
@@ -139,7 +139,7 @@ impl<'a, K: Known> Search<'a, K> {
                 let times = store.times(&thread, &self.machine.memory);
                 self.each_time(number, times, |next, _, time| store.done(next, time))
             }
-            // "An instruction that is neither load nor store executes at time 0 only."
+            // What accesses no memory has time 0 only.
             instr => self.each_time(number, 1, |next, _, _| local(&instr, next)),
         }
     }
@@ -175,7 +175,7 @@ impl<'a, K: Known> Search<'a, K> {
         ControlFlow::Continue(())
     }
 
-    /// "then promises by location, then value": none where every store left is promised already.
+    /// The promises of a thread, in order: none where every store left is promised already.
     #[inline]
     fn promises(&mut self, number: usize) -> ControlFlow<Verdict> {
         let Thread { position, promises, .. } = self.machine.thread[number];

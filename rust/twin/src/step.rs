@@ -1,12 +1,12 @@
-//! One step: "accepted if its rule allows it and the stepping thread is then certified".
-//! "Steps are tested in the order of their numbers."
+//! One step: what it needs, what it changes, and whether the thread is certified afterwards. Where
+//! several refusals apply, the lowest number is the answer.
 
 use crate::certify;
 use crate::machine::{self, Machine};
 use crate::program::{self, Program};
 use crate::rules::{decode, execute};
 
-/// "kind, thread, a, b": kind 0 executes at time a, kind 1 promises location a, value b.
+/// Kind 0 is an execution, a its time; kind 1 is a promise, a its location and b its value.
 #[derive(Clone, Copy, PartialEq, Eq, Debug, Default)]
 pub struct Step {
     pub kind: u8,
@@ -23,7 +23,7 @@ pub fn step(program: &Program, machine: &Machine, step: Step) -> Result<Machine,
     accepted(program, machine, step)
 }
 
-/// 20: "program or state value not well formed".
+/// What refusal 20 asks of the two values.
 pub fn well_formed(program: &Program, machine: &Machine) -> bool {
     program::well_formed(program) && machine::well_formed(program, machine)
 }
@@ -44,7 +44,7 @@ pub fn accepted(program: &Program, machine: &Machine, step: Step) -> Result<Mach
     Ok(next)
 }
 
-/// "the message is appended and its time added to the promises; the position stays".
+/// Memory has one message more and the thread one promise; it executes nothing.
 fn promised(machine: &Machine, step: Step) -> Result<Machine, u8> {
     if step.a > 15 {
         return Err(23);
@@ -70,7 +70,7 @@ fn executed(program: &Program, machine: &Machine, step: Step) -> Result<Machine,
     Ok(next)
 }
 
-/// Certification as a call: "20, then 21; certification has no other".
+/// Certification as a call, which is refused by 20 or 21 only.
 pub fn certify(program: &Program, machine: &Machine, thread: u8) -> Result<bool, u8> {
     if !well_formed(program, machine) {
         return Err(20);

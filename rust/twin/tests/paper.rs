@@ -1,5 +1,5 @@
-//! What document 01 says outright: the table P1 to P10, the printed example, the run and compared
-//! list, and the refusals' places.
+//! Answers that the buyer's scope paper gives outright: ten small programs, P1 to P10, and an example
+//! with its trace; litmus tests of known verdicts; and the places of refusals.
 
 use twin::literal;
 use twin::litmus::vectors;
@@ -75,7 +75,7 @@ fn printed_example() {
     assert_eq!(found, Found { verdict: Verdict::Allowed, count: 5, trace });
 }
 
-/// "Run and compared, where the budget suffices".
+/// Load buffering, message passing and store buffering, for which the budget of the judge is enough.
 #[test]
 fn run_and_compared() {
     let listed = [

@@ -16,7 +16,7 @@ fn any_bytes_come_back() {
     }
 }
 
-/// "a program the reader could give", and steps keep machines well formed.
+/// The reader gives a well-formed program back, and steps keep machines well formed.
 #[test]
 fn what_is_well_formed() {
     let mut random = Random::new(5);

@@ -57,7 +57,7 @@ fn a_budget_that_ends() {
     assert_eq!(left.table, vec![0; 400]);
 }
 
-/// "1 to 10 come first, then 30".
+/// A bad file is refused before a short area is.
 #[test]
 fn refused() {
     let scanner = file("scanner");

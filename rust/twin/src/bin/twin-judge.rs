@@ -7,7 +7,7 @@ use std::process::ExitCode;
 use twin::program;
 use twin::search::{search_known, Verdict};
 
-/// "The printing program reads a program file on standard input and uses budget 1,000,000."
+/// The budget without an argument, as the judge has it.
 const BUDGET: u64 = 1_000_000;
 
 fn main() -> ExitCode {
