@@ -1,5 +1,5 @@
 // Replays traces, and prints a line for each: its name; `good`, or the file that is refused; the refusal's number, index and place;
-// the steps taken; whether the machine is complete, and whether it is complete and the question holds; the state after the steps.
+// the steps taken; whether the machine is complete, and whether it is so with the asked outcome; the state after the steps.
 //
 // A row of standard input has a name and the bytes of a trace of the program that the lines with = and + above it give.
 mod told;

@@ -1,4 +1,4 @@
--- P1 to P10 under the definitions: one computed table.
+-- P1 to P10, ten small programs with known answers, under the definitions: one computed table.
 -- Assumes nothing.
 use mathlib.Core.Path.{refl}
 use Rattle.cases_verdicts.specs.Cases.{Right, cases}

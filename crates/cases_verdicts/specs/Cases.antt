@@ -1,4 +1,4 @@
--- Programs with known verdicts: P1 to P10, with budget, verdict, count and trace.
+-- Ten small programs with known answers, P1 to P10: the budget, verdict, count and trace of each.
 -- Assumes nothing.
 use mathlib.Core.Path.{_≡_}
 use mathlib.Core.List.{List, [], _∷_, map}
@@ -24,15 +24,15 @@ case p b o = record { asks = p; budget = b; answers = o }
 unfoldable pub Right : List Case → Type 0
 Right cs = map (λ (c : Case). answerTo (c .asks) (c .budget)) cs ≡ map (λ (c : Case). c .answers) cs
 
--- S: one thread, store 1 to location 0
+-- S: a store of 1 to location 0
 abbrev pub S : List Instruction
 S = store (con 0) (con 1) ∷ []
 
--- D: S, then load r0 from 0
+-- D: the same store, then a load of location 0 into r0
 abbrev pub D : List Instruction
 D = store (con 0) (con 1) ∷ load 0 (con 0) ∷ []
 
--- E: thread 0 is S, thread 1 loads r0 from 0
+-- E: the store in thread 0, the load in thread 1
 abbrev pub E : List (List Instruction)
 E = S ∷ (load 0 (con 0) ∷ []) ∷ []
 

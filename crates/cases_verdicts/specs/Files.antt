@@ -3,7 +3,7 @@
 use mathlib.Core.List.{List, [], _∷_, _++_}
 use Prim.Native.Nat.{ℕ}
 
--- Empty: one thread, no instructions, no conditions
+-- the empty program: one thread that has no instructions, and a question without conditions
 abbrev pub bytesOfEmpty : List ℕ
 bytesOfEmpty =
     0x50 ∷ 0x47 ∷ 0x01 ∷ 0x01

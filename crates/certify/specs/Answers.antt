@@ -19,7 +19,7 @@ certify p x i =
     (cond (ltb i (p .threads)) (cond (certified (codeOf p i) i (x .memory) (threadOf x i)) Yes No) (Refused 21))
     (Refused 20)
 
--- document 01's number for each case of the answer, 0 where there is none
+-- the refusal number for each case of the answer, 0 where there is none
 abbrev pub certifyRefusal : Certified → ℕ
 certifyRefusal Yes = 0
 certifyRefusal No = 0

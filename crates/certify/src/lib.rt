@@ -1,4 +1,4 @@
-// Certification of one thread: alone on the memory, by executing instructions, it can reach an empty promise set.
+// Certification of one thread: whether it can fulfil all its promises while no other thread runs.
 mod checked;
 pub mod reach;
 

@@ -302,7 +302,7 @@ fn try_at(c: Code, i: u8, m: Memory, s: Thread, x: Instr, t: u8, p: Tried, q: So
     noted(x, t, p, search_runs(c, i, m, r.thread, less), false)
 }
 
-// A store appends its own message and fulfils it at once, and the thread goes on from there. Where no load is left to read the message, its
+// A store that was not promised before appends a message and fulfils that, and the thread goes on from there. Where no load is left to read the message, its
 // value does not count.
 fn own_reached(
     c: Code,

@@ -1,4 +1,4 @@
--- Certification: alone on that memory, by executing instructions, the thread can reach an empty promise set, now or later.
+-- Certification: whether a thread that goes on from here by itself can come to a state without outstanding promises, this one included.
 -- Assumes nothing.
 use mathlib.Core.Bool.{Bool, false, _&&_, _||_}
 use mathlib.Core.Option.{Option, none, some}
@@ -27,7 +27,7 @@ abbrev pub onward : (Thread → Bool) → Executed → Bool
 onward f (refused n) = false
 onward f (next s) = f s
 
--- a store appends its own message and fulfils it at once, only if fewer than 16 messages stand; f goes on from there
+-- a store that was not promised before, where fewer than 16 messages stand: it appends a message and fulfils that; f goes on from there
 unfoldable pub ownMessage : (Memory → Thread → Bool) → Instr → Memory → Thread → Option Message → Bool
 ownMessage f x m s none = false
 ownMessage f x m s (some w) =

@@ -17,7 +17,7 @@ pub data Comes (Goal : Memory → Thread → Type 0) (Room : Memory → Type 0) 
   -- or after an instruction, executed at a time of the memory
   by : {m : Memory} {s : Thread} (x : Instr) (t : ℕ) (s' : Thread) → instrAt c (s .position) ≡ some x → t ≤ m .count
       → execute x m t s ≡ next s' → Comes Goal Room c i m s' → Comes Goal Room c i m s
-  -- or after a store that appends its own message and fulfils it at once
+  -- or after a store that was not promised before: it appends a message and fulfils that
   own : {m : Memory} {s : Thread} (x : Instr) (w : Message) (s' : Thread) → instrAt c (s .position) ≡ some x → messageOf i s x ≡ some w → Room m
       → execute x (append m w) ((append m w) .count) (addPromise (append m w) s) ≡ next s' → Comes Goal Room c i (append m w) s' → Comes Goal Room c i m s
 
@@ -29,11 +29,11 @@ Run = Comes (λ m s. s .promises ≡ 0)
 abbrev pub Fewer : Memory → Type 0
 Fewer m = m .count < 16
 
--- a certifying run of document 01: a store appends only if fewer than 16 messages stand
+-- a certifying run with the limit of 16 messages: a store appends one where fewer stand
 abbrev pub Certifying : Code → ℕ → Memory → Thread → Type 0
 Certifying = Run Fewer
 
--- a certifying run of the sources, which set no limit; on a memory with room for what it appends, since a message without a place is lost
+-- a certifying run without that limit, as the Promising-ARM paper (Pulte et al., PLDI 2019) has it; on a memory with room for what it appends, since a message without a place is lost
 abbrev pub Unlimited : Code → ℕ → Memory → Thread → Type 0
 Unlimited = Run (λ m. Unit {0})
 

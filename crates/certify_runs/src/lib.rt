@@ -1,1 +1,1 @@
-// Certification as document 01 defines it, as a test and as runs: definitions and theorems.
+// Certification as the rules have it, as a test and as runs: definitions and theorems.

@@ -11,7 +11,7 @@ use Rattle.search.specs.declared.Verdict.{Verdict}
 use Rattle.search.specs.declared.Verdict.the-variants.{Allowed, Forbidden, NotFinished, Refused as SearchRefused}
 
 -- ---- read
--- document 01's number of the refusal
+-- the refusal number
 abbrev pub readRefusal : ReadAnswer → ℕ
 readRefusal Good = 0
 readRefusal (Refused n place) = n

@@ -1,4 +1,4 @@
-// The reading of a program file between two records: where it stands, and the start of a record. Each record has a two-byte mark before its body.
+// The reading of a program file between two records: where it stands, and the start of a record. Each record begins with a mark of two bytes.
 ghost use mathlib.Core.Path.{_≡_};
 ghost use Prim.Native.Nat.{_≤_, _<_};
 ghost use lib.ListN.{length};

@@ -22,7 +22,7 @@ fn mode_limit(op: u8) -> u8
     if op == 3 { 15 } else { 3 }
 }
 
-// m is in range; the target of a branch at place k of n instructions may be the thread's end but not beyond.
+// m is in range; a branch at place k of n instructions passes over no more of them than come after it.
 fn mode_ok(n: u8, k: usize, op: u8, m: u8) -> bool
     requires { ⌜ k < 16 ⌝ }
     ensures { λ r. ⌜ r ≡ modeTest n k op m ⌝ }

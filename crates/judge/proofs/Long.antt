@@ -137,7 +137,7 @@ long-file f n l h =
     let t = length-take-le n f h in
     sym (more-same (take n f) (drop n f) (omega arith)) ∙ ap readFile (take-append-drop n f)
 
--- so the search on its first n bytes answers what document 01 says of the whole
+-- so the search on its first n bytes answers what the rules say of the whole
 pub long-answer : {f : List ℕ} {b : ℕ} {area after : List ℕ} {r : Answer} (n : ℕ) → 647 < n → n ≤ length f → Searched (take n f) b area r after → Searched f b area r after
 long-answer {f} {b} {area} {after} {r} n l h s =
     let e = long-file f n l h in

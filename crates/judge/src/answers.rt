@@ -1,4 +1,4 @@
-// An answer printed as document 01 says: the verdict, the count, and a line for each step of the trace; or the refusal.
+// An answer as it is printed: the verdict, the count, and a line for each step of the trace; or the refusal.
 ghost use Prim.Native.Nat.{_*_, _≤_};
 ghost use lib.ListN.{length};
 use search::Answer;

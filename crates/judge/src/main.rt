@@ -1,4 +1,4 @@
-// The printing program of document 01, `judge [BUDGET] < FILE`: a program file on standard input, its answer on standard output.
+// The printing program, `judge [BUDGET] < FILE`: a program file on standard input, its answer on standard output.
 mod answers;
 
 use answers::answer;

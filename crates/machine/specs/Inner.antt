@@ -40,7 +40,7 @@ stored k t l va vd s = advance 1 (withForward l t (max va vd) (withViews (storeV
 unfoldable pub ownAt : StoreMode → ℕ → ℕ → ℕ → ℕ → Thread → Executed
 ownAt k t l va vd s = test (belowTime k t l va vd s) 28 (next (stored k t l va vd s))
 
--- a store of thread i that appends its own message and fulfils it at once
+-- a store of thread i that was not promised before: it appends a message and fulfils that
 unfoldable pub ownStore : StoreMode → Operand → Operand → Memory → ℕ → Thread → Executed
 ownStore k a d m i s =
     let m' = append m (storeMessage i a d s) in

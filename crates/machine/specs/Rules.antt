@@ -26,7 +26,7 @@ abbrev pub valueOf : Thread → Operand → ℕ
 valueOf s (Constant n) = n
 valueOf s (OfRegister r) = (getD (s .registers) r freshRegister) .value
 
--- the view of a constant is 0, of a register its own
+-- an operand's view: 0 for a constant, for a register the one that it holds
 abbrev pub viewOf : Thread → Operand → ℕ
 viewOf s (Constant n) = 0
 viewOf s (OfRegister r) = (getD (s .registers) r freshRegister) .view
@@ -35,16 +35,16 @@ viewOf s (OfRegister r) = (getD (s .registers) r freshRegister) .view
 abbrev pub viewOf₂ : Thread → Operand → Operand → ℕ
 viewOf₂ s a b = max (viewOf s a) (viewOf s b)
 
--- an address is reduced modulo 16
+-- one of the 16 locations: the address modulo 16
 abbrev pub address : ℕ → ℕ
 address n = n % 16
 
--- each executed instruction moves the position on
+-- the position n further on
 abbrev pub advance : ℕ → Thread → Thread
 advance n s = withPosition (s .position + n) s
 
--- ---- compute: sets r to the value and the operands' view
--- sums and differences are taken modulo 256
+-- ---- compute: r has the result, with the view of both operands
+-- every result is a byte, so a sum or difference is one modulo 256
 unfoldable pub combine : ComputeMode → ℕ → ℕ → ℕ
 combine Add x y = (x + y) % 256
 combine Subtract x y = (x + 256 - y) % 256
@@ -54,7 +54,7 @@ combine Equal x y = cond (eqb x y) 1 0
 abbrev pub computeDone : ComputeMode → ℕ → Operand → Operand → Thread → Thread
 computeDone k r a b s = advance 1 (withRegister r (combine k (valueOf s a) (valueOf s b)) (viewOf₂ s a b) s)
 
--- ---- branch: raises CAP by the operands' view; if the operands are equal, skips the next n instructions
+-- ---- branch: the view of both operands raises CAP; where their values are equal, n instructions are passed over
 abbrev pub branchBy : Bool → ℕ → ℕ
 branchBy true n = n + 1
 branchBy false n = 1
@@ -63,13 +63,13 @@ abbrev pub branchDone : ℕ → Operand → Operand → Thread → Thread
 branchDone n a b s = advance (branchBy (eqb (valueOf s a) (valueOf s b)) n) (withViews (raiseCap (viewOf₂ s a b) (s .views)) s)
 
 -- ---- load at time t; l is the location, va the address view
--- the larger of address view and rNew, and for acquire (not weak) also Rel
+-- the pre-view: address view and rNew; of an acquire, unless it is weak, Rel as well
 abbrev pub loadPre : LoadMode → ℕ → Views → ℕ
 loadPre PlainLoad va w = max va (w .rNew)
 loadPre Acquire va w = max (max va (w .rNew)) (w .rel)
 loadPre WeakAcquire va w = max va (w .rNew)
 
--- the message at t must be at the address, or t = 0
+-- l can be read at time t: that is 0, or has a message to l
 unfoldable pub readable : Memory → ℕ → ℕ → Bool
 readable m l t = eqb t 0 || (leb t (m .count) && eqb ((messageAt m t) .location) l)
 
@@ -77,15 +77,15 @@ readable m l t = eqb t 0 || (leb t (m .count) && eqb ((messageAt m t) .location)
 abbrev pub newer : Memory → ℕ → ℕ → ℕ → ℕ → Bool
 newer m l t v u = eqb ((messageAt m u) .location) l && ltb t u && leb u v
 
--- no message to l has a time above t and up to v
+-- l has no message later than t, as far as time v
 unfoldable pub noneNewer : Memory → ℕ → ℕ → ℕ → Bool
 noneNewer m l t v = below (λ k. not (newer m l t v (suc k))) (m .count)
 
--- time 0 holds value 0 at every location
+-- what is read at time t: 0 at time 0, else what the message has
 unfoldable pub readValue : Memory → ℕ → ℕ
 readValue m t = cond (eqb t 0) 0 ((messageAt m t) .value)
 
--- the forward view if t equals the forward time, else t
+-- the read view: at the forward time of l its forward view, at any other time that time
 abbrev pub readView : Thread → ℕ → ℕ → ℕ
 readView s l t = let w = getD (s .forward) l freshForward in cond (eqb t (w .time)) (w .view) t
 
@@ -95,11 +95,11 @@ ifAcquire PlainLoad v = 0
 ifAcquire Acquire v = v
 ifAcquire WeakAcquire v = v
 
--- rOld is raised by the post-view, for both acquires rNew and wNew too; CAP by the address view
+-- the post-view raises rOld, and for either acquire rNew and wNew; the address view raises CAP
 abbrev pub loadViews : LoadMode → ℕ → ℕ → Views → Views
 loadViews k va post w = raiseCap va (raiseWNew (ifAcquire k post) (raiseRNew (ifAcquire k post) (raiseROld post w)))
 
--- r takes value and post-view; the location's coherence view is raised by the post-view
+-- r has the value, with the post-view, which also raises the coherence view of l
 abbrev pub loadDone : LoadMode → ℕ → Memory → ℕ → ℕ → ℕ → ℕ → Thread → Thread
 loadDone k r m t l va post s = advance 1 (withViews (loadViews k va post (s .views)) (raiseCoherence l post (withRegister r (readValue m t) post s)))
 
@@ -111,12 +111,12 @@ loadAt k r m t l va s =
     (next (loadDone k r m t l va (max pre (readView s l t)) s)))
 
 -- ---- store at time t; l is the location, v the value, va and vd the views of address and data
--- the largest of address view, data view, wNew and CAP, and for release also rOld and wOld
+-- the pre-view: the views of both operands, wNew and CAP; of a release, rOld and wOld as well
 abbrev pub storePre : StoreMode → ℕ → ℕ → Views → ℕ
 storePre PlainStore va vd w = max (max va vd) (max (w .wNew) (w .cap))
 storePre Release va vd w = max (max (max va vd) (max (w .wNew) (w .cap))) (max (w .rOld) (w .wOld))
 
--- t must be an outstanding promise of this thread with this location and value
+-- the thread has promised the value v at l for time t, and has not fulfilled it yet
 unfoldable pub promised : Memory → ℕ → ℕ → ℕ → Thread → Bool
 promised m t l v s = has (s .promises) t && leb t (m .count) && eqb ((messageAt m t) .location) l && eqb ((messageAt m t) .value) v
 
@@ -125,16 +125,16 @@ abbrev pub ifRelease : StoreMode → ℕ → ℕ
 ifRelease PlainStore t = 0
 ifRelease Release t = t
 
--- wOld is raised by t, for release also Rel; CAP by the address view
+-- t raises wOld, and for a release Rel; the address view raises CAP
 abbrev pub storeViews : StoreMode → ℕ → ℕ → Views → Views
 storeViews k t va w = raiseCap va (raiseRel (ifRelease k t) (raiseWOld t w))
 
--- the promise is taken out; the coherence view is raised by t; the forward pair becomes t and the larger of address and data view
+-- t is no promise any more, and raises the coherence view of l; the forward pair of l is t with the view of both operands
 abbrev pub storeDone : StoreMode → ℕ → ℕ → ℕ → ℕ → Thread → Thread
 storeDone k t l va vd s =
     advance 1 (withForward l t (max va vd) (withViews (storeViews k t va (s .views)) (raiseCoherence l t (takeOut t s))))
 
--- pre-view and coherence view must both be below t
+-- t is above two views: the pre-view and the coherence view of l
 unfoldable pub storeAt : StoreMode → Memory → ℕ → ℕ → ℕ → ℕ → ℕ → Thread → Executed
 storeAt k m t l v va vd s =
     test (promised m t l v s) 26
@@ -142,7 +142,7 @@ storeAt k m t l v va vd s =
     (next (storeDone k t l va vd s)))
 
 -- ---- fence
--- dmb sy: rNew and wNew raised by rOld and wOld; dmb ld: both raised by rOld; dmb st: wNew raised by wOld; isb: rNew raised by CAP
+-- dmb sy: rOld and wOld raise rNew and wNew; dmb ld: rOld raises both; dmb st: wOld raises wNew; isb: CAP raises rNew
 abbrev pub fenceViews : FenceMode → Views → Views
 fenceViews DmbSy w = raiseWNew (max (w .rOld) (w .wOld)) (raiseRNew (max (w .rOld) (w .wOld)) w)
 fenceViews DmbLd w = raiseWNew (w .rOld) (raiseRNew (w .rOld) w)
@@ -152,7 +152,7 @@ fenceViews Isb w = raiseRNew (w .cap) w
 abbrev pub fenceDone : FenceMode → Thread → Thread
 fenceDone k s = advance 1 (withViews (fenceViews k (s .views)) s)
 
--- ---- one instruction, executed at time t; what is neither load nor store executes at time 0 only
+-- ---- one instruction, executed at time t; only loads and stores have times other than 0
 unfoldable pub execute : Instr → Memory → ℕ → Thread → Executed
 execute (Compute k r a b) m t s = test (eqb t 0) 26 (next (computeDone k r a b s))
 execute (Load k r a b) m t s = loadAt k r m t (address (valueOf s a + valueOf s b)) (viewOf₂ s a b) s
@@ -160,7 +160,7 @@ execute (Store k a d) m t s = storeAt k m t (address (valueOf s a)) (valueOf s d
 execute (Branch n a b) m t s = test (eqb t 0) 26 (next (branchDone n a b s))
 execute (Fence k) m t s = test (eqb t 0) 26 (next (fenceDone k s))
 
--- ---- promise: the message is appended, and its time added to the promises; the position stays
+-- ---- promise: memory has one message more, which the thread has promised; the thread is where it was
 -- the thread with the newest message of m among its promises
 abbrev pub addPromise : Memory → Thread → Thread
 addPromise m s = withPromises (with (s .promises) (m .count)) s

@@ -13,7 +13,7 @@ pub use Rattle.machine.specs.declared.Views.{Views}
 pub use Rattle.machine.specs.declared.Thread.{Thread}
 pub use Rattle.machine.specs.declared.Machine.{Machine}
 
--- ---- all starts at 0 and empty
+-- ---- the start: no message, no promise, and 0 for every number
 abbrev pub noMessage : Message
 noMessage = record { location = 0; value = 0; thread = 0 }
 

@@ -11,7 +11,7 @@ use Rattle.program.specs.Program.{codeOf}
 use Rattle.machine.specs.Below.{Code, Program}
 use Rattle.machine.specs.State.{Message, Memory, Views, Thread, Machine, freshRegister, freshForward, threadOf, messageAt, has}
 
--- a message has a location below 16 and an existing thread
+-- a message is to one of 16 locations, by a thread of the program
 unfoldable pub messageTest : ℕ → Message → Bool
 messageTest threads w = allOf (ltb (w .location) 16 ∷ ltb (w .thread) threads ∷ [])
 
@@ -35,8 +35,8 @@ viewsTest n w = allOf (leb (w .rOld) n ∷ leb (w .wOld) n ∷ leb (w .rNew) n �
 unfoldable pub ownTest : ℕ → Memory → ℕ → ℕ → Bool
 ownTest i m p t = not (has p t) || eqb ((messageAt m t) .thread) i
 
--- thread i, with code c, on memory m: its position is within the thread; every view and forward time is at most the message count;
--- its promises are only at its own messages
+-- thread i, with code c, on memory m: its position is no further than its end; no view and no forward time is past the newest message;
+-- what it has promised are messages of its own
 unfoldable pub threadTest : Code → ℕ → Memory → Thread → Bool
 threadTest c i m s =
     let n = m .count in

@@ -30,7 +30,7 @@ pub struct Forward {
     pub view: u8,
 }
 
-// The views of a thread under the paper's names; `cap` and `rel` are its CAP and Rel.
+// The views of a thread; `cap` and `rel` are CAP and Rel of the Promising-ARM paper (Pulte et al., PLDI 2019), the others have its names.
 pub struct Views {
     pub rOld: u8,
     pub wOld: u8,

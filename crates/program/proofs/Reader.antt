@@ -15,7 +15,7 @@ use Rattle.program.specs.Encode.{eachRecord, fileOf}
 use Rattle.program.proofs.ReadBack.{read-back}
 use Rattle.program.proofs.ReadFormed.{read-formed}
 
--- WELL FORMED IS EXACTLY: a program the reader could give
+-- WELL FORMED IS EXACTLY: a program that some file is read as
 pub formed-iff : (p : Program) → T (programTest p) ↔ (f : List ℕ) × (readFile f ≡ program p)
 formed-iff p = (λ h. (fileOf p, read-back p h), λ r. read-formed (r .0) p (r .1))
 

@@ -1,4 +1,4 @@
--- The program file: read front to back, record by record. Each record has a two-byte mark before its body.
+-- The program file, read from its first byte on, record by record. Each record begins with a mark of two bytes.
 -- Assumes nothing.
 use mathlib.Core.Bool.{Bool, true, false, cond, _&&_}
 use mathlib.Core.List.{List, [], _∷_}
@@ -59,7 +59,7 @@ readHeader f =
     (demand (leb 1 n && leb n 4) 4 3
     (reading 4 0 (withHeader v n noProgram))))
 
--- ---- instruction record: 49 4E, op, m, r, k1, n1, k2, n2 (a byte out of range, or an unused one not 0: 6); a 17th store: 7, at the op byte
+-- ---- instruction record: 49 4E, op, m, r, k1, n1, k2, n2 (6 at the first byte that is not in range); a 17th store: 7, at the op byte
 abbrev pub instructionOf : List ℕ → ℕ → Instruction
 instructionOf f at = record {
   op = byteAt f (at + 2);
@@ -86,7 +86,7 @@ readInstruction f i k at s p =
     (demand (leb (s + oneStore x) 16) 7 (at + 2)
     (reading (at + 9) (s + oneStore x) (withInstruction i k x p))))
 
--- ---- thread record: 54 48, number, counting from 0 (else 10), instructions 0..16 (else 5), which follow
+-- ---- thread record: 54 48, number, which is the next (else 10), instructions 0..16 (else 5), which follow
 unfoldable pub readThread : List ℕ → ℕ → ℕ → ℕ → Program → Reading
 readThread f i at s p =
     let n = byteAt f (at + 3) in

@@ -36,23 +36,23 @@ abbrev pub noProgram : Program
 noProgram = record { version = 0; threads = 0; codes = replicate 4 noCode; conditions = 0; question = replicate 8 noCondition }
 
 -- ---- what an instruction's bytes stand for
--- an operand (k, n) is a constant (k = 0) or a register (k = 1)
+-- an operand, by its kind k: a constant for 0, else a register
 unfoldable pub operand : ℕ → ℕ → Operand
 operand k n = cond (eqb k 0) (Constant n) (OfRegister n)
 
--- m = 0 add, 1 subtract, 2 exclusive or, 3 equal
+-- the operation of a compute, by its byte m
 unfoldable pub computeMode : ℕ → ComputeMode
 computeMode m = cond (eqb m 0) Add (cond (eqb m 1) Subtract (cond (eqb m 2) ExclusiveOr Equal))
 
--- m = 0 plain, 1 acquire, 2 weak acquire
+-- the mode of a load, by its byte m
 unfoldable pub loadMode : ℕ → LoadMode
 loadMode m = cond (eqb m 0) PlainLoad (cond (eqb m 1) Acquire WeakAcquire)
 
--- m = 0 plain, 1 release
+-- the mode of a store, by its byte m
 unfoldable pub storeMode : ℕ → StoreMode
 storeMode m = cond (eqb m 0) PlainStore Release
 
--- m = 0 dmb sy, 1 dmb ld, 2 dmb st, 3 isb
+-- the kind of a fence, by its byte m
 unfoldable pub fenceMode : ℕ → FenceMode
 fenceMode m = cond (eqb m 0) DmbSy (cond (eqb m 1) DmbLd (cond (eqb m 2) DmbSt Isb))
 

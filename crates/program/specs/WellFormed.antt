@@ -1,4 +1,4 @@
--- Well formed: a program the reader could give. The tests of a record's bytes stand in the order of the bytes.
+-- Well formed: a program that some file is read as. The tests of a record's bytes stand in the order of the bytes.
 -- Assumes nothing.
 use mathlib.Core.Bool.{Bool, true, cond, _&&_}
 use mathlib.Core.List.{List, [], _∷_}
@@ -14,7 +14,7 @@ use Rattle.program.specs.Counts.{stores}
 unfoldable pub modeLimit : ℕ → ℕ
 modeLimit op = cond (eqb op 0) 3 (cond (eqb op 1) 2 (cond (eqb op 2) 1 (cond (eqb op 3) 15 3)))
 
--- m is in range; a branch at place k of n instructions has a target that may be the thread's end but not beyond
+-- m is in range; a branch at place k of n instructions passes over no more of them than come after it
 unfoldable pub modeTest : ℕ → ℕ → ℕ → ℕ → Bool
 modeTest n k op m = leb m (modeLimit op) && cond (eqb op 3) (leb (k + suc m) n) true
 
@@ -46,7 +46,7 @@ unfoldable pub instructionTest : ℕ → ℕ → Instruction → Bool
 instructionTest n k i = allOf (instructionTests n k i)
 
 -- ---- a condition: kind, thread, index, value
--- kind 0 asks for a register (thread below the thread count, index 0..7), kind 1 for a location (thread 0, index 0..15)
+-- kind 0 is about one of the 8 registers of a thread of the program, kind 1 about one of the 16 locations, with thread 0
 abbrev pub conditionTests : ℕ → Condition → List Bool
 conditionTests threads q =
     leb (q .kind) 1

@@ -1,4 +1,4 @@
-// Well formed: a program the reader could give. Each function computes a definition of source's specs/WellFormed.antt or
+// Well formed: a program that some file is read as. Each function computes a definition of program's specs/WellFormed.antt or
 // specs/Counts.antt, or a part of one. A test of an array's length is not computed: an array always has its length.
 ghost use mathlib.Core.Path.{_≡_};
 ghost use mathlib.Core.Bool.{true, cond, _&&_};

@@ -26,7 +26,7 @@ use rules_loads::load_at;
 use rules_stores::own_at;
 use rules_stores::store_at;
 
-// What is neither load nor store executes at time 0 only.
+// Only loads and stores have times other than 0.
 pub fn execute(x: Instr, m: Memory, t: u8, s: Thread) -> Ruled
     requires { ⌜ (s .position + reach x < 256) × (m .count ≤ 16) ⌝ }
     ensures { λ r. ⌜ r ≡ ruled s (execute x m t s) ⌝ }

@@ -16,7 +16,7 @@ pub fn value_of(s: Thread, a: Operand) -> u8
     }
 }
 
-// The view of a constant is 0, of a register its own.
+// An operand's view: 0 for a constant, for a register the one that it holds.
 pub fn view_of(s: Thread, a: Operand) -> u8
     ensures { λ r. ⌜ r ≡ viewOf s a ⌝ }
 {
@@ -32,7 +32,7 @@ pub fn view_of_both(s: Thread, a: Operand, b: Operand) -> u8
     larger(view_of(s, a), view_of(s, b))
 }
 
-// An address is reduced modulo 16.
+// One of the 16 locations: the address modulo 16.
 pub fn address(n: u8) -> u8
     ensures { λ r. ⌜ (r ≡ address n) × (r < 16) ⌝ }
 {

@@ -13,7 +13,7 @@ use machine::merge::larger;
 use machine::merge::smaller;
 use program::LoadMode;
 
-// The larger of address view and rNew, and for acquire (not weak) also Rel.
+// The pre-view: address view and rNew; of an acquire, unless it is weak, Rel as well.
 pub fn load_pre(k: LoadMode, va: u8, w: Views) -> u8
     ensures { λ r. ⌜ r ≡ loadPre k va w ⌝ }
 {
@@ -38,7 +38,7 @@ pub fn readable(m: Memory, l: u8, t: u8) -> bool
     m.message_at(t).location == l
 }
 
-// No message to l has a time above t and up to v: those times are looked at from the newest on.
+// Location l has no message later than t, as far as time v: those times are looked at from the newest on.
 pub fn none_newer(m: Memory, l: u8, t: u8, v: u8) -> bool
     requires { ⌜ m .count ≤ 16 ⌝ }
     ensures { λ r. ⌜ r ≡ noneNewer m l t v ⌝ }
@@ -62,7 +62,7 @@ pub fn read_value(m: Memory, t: u8) -> u8
     if t == 0 { 0 } else { m.message_at(t).value }
 }
 
-// The forward view if t equals the forward time, else t.
+// The read view: at the forward time of l its forward view, at any other time that time.
 pub fn read_view(s: Thread, l: u8, t: u8) -> u8
     requires { ⌜ l < 16 ⌝ }
     ensures { λ r. ⌜ r ≡ readView s l t ⌝ }

@@ -15,7 +15,7 @@ use machine::merge::larger;
 use machine::promises::has;
 use program::StoreMode;
 
-// The largest of address view, data view, wNew and CAP, and for release also rOld and wOld.
+// The pre-view: the views of both operands, wNew and CAP; of a release, rOld and wOld as well.
 pub fn store_pre(k: StoreMode, va: u8, vd: u8, w: Views) -> u8
     ensures { λ r. ⌜ r ≡ storePre k va vd w ⌝ }
 {
@@ -26,7 +26,7 @@ pub fn store_pre(k: StoreMode, va: u8, vd: u8, w: Views) -> u8
     }
 }
 
-// Time t is an outstanding promise of this thread with this location and value.
+// The thread has promised the value at the location for time t, and has not fulfilled it yet.
 pub fn promised(m: Memory, t: u8, l: u8, v: u8, s: Thread) -> bool
     requires { ⌜ m .count ≤ 16 ⌝ }
     ensures { λ r. ⌜ r ≡ promised m t l v s ⌝ }

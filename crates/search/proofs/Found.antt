@@ -57,7 +57,7 @@ found-short p b n q e =
     let w = wanted-run p q (demand-3 p b (sequencesOf p) (listed p) .allowed-then n q e .is-wanted) in
     bound p q (w .0, w .1)
 
--- FOUND REPLAYS: the trace of an allowed answer is good, and it is complete and the question holds
+-- FOUND REPLAYS: the trace of an allowed answer is good, and it ends complete, with the asked outcome
 pub found-replays : (f : List ℕ) (p : Program) → readFile f ≡ program p → (b n : ℕ) (q : List Step) → answerTo p b ≡ allowed n q
     → (y : Machine) × (replay f (traceBytes q) ≡ replayed p (ended (length q) y)) × (complete p y ≡ true) × ((replay f (traceBytes q)) .holds ≡ true)
 found-replays f p good b n q e =

@@ -54,7 +54,7 @@ module _ {f : List ℕ} {p : Program} (good : readFile f ≡ program p) {area : 
   pub is-lent : after ≡ areaOf (answerTo p b) area
   is-lent = s .lent ∙ ap (λ (y : FileAnswer). areaOn y b area) good ∙ rw (le-ltb (length area) 480 long)
 
-  -- DEMAND 3 of the code's answer, over any list of all accepted sequences in order
+  -- THE DEMAND on the code's answer, over any list of all accepted sequences in order
   pub search-demand : (l : List (List Step)) → Listed (stepping p) fresh l
       → (o : sequences.Answer Step) × Demand (wanted (stepping p) fresh) l b o × (r ≡ answerOf o) × (after ≡ areaOf o area)
   search-demand l h = (answerTo p b, demand-3 p b l h, is-answer, is-lent)

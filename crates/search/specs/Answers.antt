@@ -1,4 +1,4 @@
--- The answer of a search on a program file for the code: verdict, count and number of trace steps; and the lent area afterwards.
+-- The answer of a search on a program file for the code: verdict, count and how many steps the trace has; and the lent area afterwards.
 -- Assumes nothing.
 use mathlib.Core.Path.{_≡_}
 use mathlib.Core.Bool.{cond}
@@ -15,13 +15,13 @@ pub use Rattle.search.specs.declared.Verdict.{Verdict}
 pub use Rattle.search.specs.declared.Verdict.the-variants.{Allowed, Forbidden, NotFinished, Refused}
 pub use Rattle.search.specs.declared.Answer.{Answer}
 
--- verdict, count and number of trace steps, which is 0 unless allowed
+-- verdict, count and how many steps the trace has: none unless allowed
 abbrev pub answerOf : sequences.Answer Step → Answer
 answerOf (sequences.allowed n q) = record { verdict = Allowed; count = n; steps = length q }
 answerOf (sequences.forbidden n) = record { verdict = Forbidden; count = n; steps = 0 }
 answerOf (sequences.unfinished n) = record { verdict = NotFinished; count = n; steps = 0 }
 
--- when allowed, the trace takes the first 6 bytes per step of the lent area, and the remainder is untouched; in every other answer the whole area is
+-- the lent area afterwards: where allowed, the trace is at its front, 6 bytes for each step; every other byte is what it was, and without a trace all are
 abbrev pub areaOf : sequences.Answer Step → List ℕ → List ℕ
 areaOf (sequences.allowed n q) area = traceBytes q ++ drop (6 * length q) area
 areaOf (sequences.forbidden n) area = area
@@ -31,7 +31,7 @@ areaOf (sequences.unfinished n) area = area
 abbrev pub refusal : ℕ → ℕ → Answer
 refusal number place = record { verdict = Refused number place; count = 0; steps = 0 }
 
--- 1 to 10 come first, then 30: lent trace area under 480 bytes
+-- the file's refusal, 1 to 10, before that of the area, 30: it has fewer than 480 bytes
 abbrev pub answerOn : FileAnswer → ℕ → List ℕ → Answer
 answerOn (refused number place) b area = refusal number place
 answerOn (program p) b area = cond (ltb (length area) 480) (refusal 30 0) (answerOf (answerTo p b))

@@ -1,4 +1,4 @@
--- What an answer of the search means, over the list of all accepted sequences: demand 3, the trace that is found, and the lent area.
+-- What an answer of the search means, over the list of all accepted sequences: what is demanded of it, the trace that is found, and the lent area.
 -- Assumes nothing.
 use mathlib.Core.Path.{_≡_}
 use mathlib.Core.Bool.{true}

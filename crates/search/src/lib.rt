@@ -84,7 +84,7 @@ pub fn search_within(file: &[u8], budget: u64, area: &mut [u8], table: &mut [u8]
     }
 }
 
-// The search of document 01: without a table, and with a budget of 32 bits.
+// The plain search: without a table, and with a budget of 32 bits.
 pub fn search(file: &[u8], budget: u32, area: &mut [u8]) -> Answer
     ensures { λ r. ⌜ Searched (now (file .entry)) budget (now (area .entry)) r (now (area .exit)) ⌝ }
 {

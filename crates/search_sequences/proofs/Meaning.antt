@@ -1,4 +1,4 @@
--- What the list of sequences and the answer are: the list is all accepted sequences in order, the only such list, and demand 3 holds over it.
+-- What the list of sequences and the answer are: the list is all accepted sequences in order, the only such list, and the answer is what is demanded over it.
 -- Assumes nothing.
 use mathlib.Core.Path.{_≡_}
 use mathlib.Core.List.{List}
@@ -36,12 +36,12 @@ pub only : (p : Program) (l : List (List Step)) → Listed (stepping p) fresh l 
 unfolding sequencesOf
 only p = lists.only (stepping p) (lawful p) (size p) fresh (fresh-bound p)
 
--- DEMAND 3, over any list of all accepted sequences in order
+-- THE DEMAND on the answer, over any list of all accepted sequences in order
 pub demand-3 : (p : Program) (b : ℕ) (l : List (List Step)) → Listed (stepping p) fresh l → Demand (wanted (stepping p) fresh) l b (answerTo p b)
 unfolding answerTo sequencesOf
 demand-3 p b l h = answers.demand-3 (stepping p) (lawful p) (size p) fresh (fresh-bound p) b l h
 
--- ONE ANSWER: nothing else meets demand 3
+-- ONE ANSWER: nothing else meets the demand
 pub one-answer : (p : Program) (b : ℕ) (o : Answer Step) → Demand (wanted (stepping p) fresh) (sequencesOf p) b o → o ≡ answerTo p b
 unfolding answerTo
 one-answer p b o d = answers.one-answer (wanted (stepping p) fresh) (sequencesOf p) b o (answer (wanted (stepping p) fresh) (sequencesOf p) b) d (answers.meets (wanted (stepping p) fresh) (sequencesOf p) b)

@@ -18,8 +18,8 @@ use step::StepAnswer;
 use step::memory_after;
 use trace_record::put_step;
 
-// Visits x and each state that an accepted step leads to: threads ascending, from the first that is not at its end; within one,
-// executions by time, then promises by location, then value. A refused step costs nothing. y is x but for the memory and for the
+// Visits x and each state that an accepted step leads to: by thread, from the first that is not at its end; of one thread
+// executions by time, then promises by location and value. A refused step costs nothing. y is x but for the memory and for the
 // thread whose turn it is: one copy of the machine is changed in place and put back, since a second one would cost as much as a
 // step, and take stack. Where all of it goes on, y is x again, and is written into the table.
 fn walk(

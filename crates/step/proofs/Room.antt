@@ -177,7 +177,7 @@ refused-24 p x i l v e =
     let f = full (ltb (x .memory .count) 16) _ (d .1) (not-settled p x i (promisedMemory x i l v) (promisedThread x i l v) 24 (λ q. omega arith)) in
     (and-left (programTest p) (machineTest p x) (a .0), ltb→lt i (p .threads) (b .0), nltb→le (x .memory .count) 16 (not-T (ltb (x .memory .count) 16) f))
 
--- ROOM: from the fresh machine 24 refuses no promise that could be certified, on any memory, with the limit of 16 messages or without
+-- ROOM: after steps from the fresh machine, a promise that 24 refuses could not be certified either, on any memory, with the limit of 16 messages or without
 pub room : (p : Program) {x : Machine} → Reached p x → (i l v : ℕ) → step p x (promise i l v) ≡ rejected 24
     → {Room : Memory → Type 0} (m : Memory) (s : Thread) → s .position ≡ (threadOf x i) .position → outstanding s ≡ suc (outstanding (threadOf x i)) → Run Room (codeOf p i) i m s → ⊥
 room p {x} r i l v e =

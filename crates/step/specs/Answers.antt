@@ -12,7 +12,7 @@ abbrev pub stepped : Machine → Decision → Stepped
 stepped x (rejected n) = record { answer = Refused n; machine = x }
 stepped x (accepted y) = record { answer = Taken; machine = y }
 
--- document 01's number for each case of the answer, 0 where there is none
+-- the refusal number for each case of the answer, 0 where there is none
 abbrev pub stepRefusal : StepAnswer → ℕ
 stepRefusal Taken = 0
 stepRefusal (Refused n) = n

@@ -1,4 +1,4 @@
--- The order of next steps: threads ascending; within one, executions by time ascending, then promises by location, then value.
+-- The order of next steps: by thread; of one thread executions before promises; those by time, these by location and then by value.
 -- Assumes nothing.
 use mathlib.Core.Path.{_≡_}
 use mathlib.Core.Logic.{_⊎_}

@@ -10,7 +10,7 @@ use Rattle.machine.specs.State.{freshRegister, threadOf, messageAt}
 use Rattle.program.specs.declared.Condition.{Condition}
 use Rattle.certify_runs.specs.Below.{Program, Memory, Machine}
 
--- every thread is at its end with no promise left
+-- all threads have come to their end, and no promise is outstanding
 unfoldable pub complete : Program → Machine → Bool
 complete p x = below (λ i. eqb ((threadOf x i) .position) ((codeOf p i) .count) && eqb ((threadOf x i) .promises) 0) (p .threads)
 
@@ -19,15 +19,15 @@ unfoldable pub lastOf : Memory → ℕ → ℕ → ℕ
 lastOf m l zero = 0
 lastOf m l (suc n) = let rest = lastOf m l n in cond (eqb ((messageAt m (suc n)) .location) l) ((messageAt m (suc n)) .value) rest
 
--- a location's last value is that of its newest message, 0 if there is none
+-- the last value of a location: what the newest message to it has, else 0
 unfoldable pub lastValue : Memory → ℕ → ℕ
 lastValue m l = lastOf m l (m .count)
 
--- kind 0 asks for a register's value, kind 1 for a location's last value
+-- a condition of kind 0 is about the value of a register, one of kind 1 about the last value of a location
 unfoldable pub holds : Machine → Condition → Bool
 holds x q = eqb (cond (eqb (q .kind) 0) ((getD ((threadOf x (q .thread)) .registers) (q .index) freshRegister) .value) (lastValue (x .memory) (q .index))) (q .value)
 
--- all conditions hold; none at all is true
+-- every condition holds, as is the case where there are none
 unfoldable pub questionHolds : Program → Machine → Bool
 questionHolds p x = below (λ k. holds x (getD (p .question) k noCondition)) (p .conditions)
 

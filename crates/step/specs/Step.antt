@@ -1,4 +1,4 @@
--- One step of the machine: accepted if its rule allows it and the stepping thread is then certified. Refusals are tested in the order of their numbers.
+-- One step of the machine: its rule must allow it, and its thread must be certified afterwards. The refusals are tested from the lowest number on.
 -- Assumes nothing.
 use mathlib.Core.Bool.{Bool, true, false, _&&_}
 use mathlib.Core.Option.{Option, none, some}
@@ -54,7 +54,7 @@ promiseStep p x i l v =
     (check (ltb (x .memory .count) 16) 24
     (settle p x i m (addPromise m (threadOf x i))))
 
--- kind 0 executes at time a, b = 0; kind 1 promises location a, value b, which is a byte; any other step: 22
+-- kind 0 is an execution at time a, with b 0; kind 1 is a promise of the value b, a byte, at location a; any other step: 22
 unfoldable pub kindStep : Program → Machine → Step → ℕ → Decision
 kindStep p x k zero = check (eqb (k .b) 0) 22 (executeStep p x (k .thread) (k .a))
 kindStep p x k (suc n) = check (eqb n 0 && leb (k .b) 255) 22 (promiseStep p x (k .thread) (k .a) (k .b))

@@ -25,7 +25,7 @@ use program::Instr;
 use program::Program;
 use rules::execute;
 
-// As a trace has it: kind 0 executes at time a, b = 0; kind 1 promises location a, value b.
+// As a trace has it: kind 0 is an execution at time a, with b 0; kind 1 is a promise of the value b at location a.
 pub struct TraceStep {
     pub kind: u8,
     pub thread: u8,

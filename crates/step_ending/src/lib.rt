@@ -19,7 +19,7 @@ fn thread_done(c: Code, s: Thread) -> bool
     (s.position == c.count) & (s.promises == 0)
 }
 
-// Every thread is at its end with no promise left. Written out for four threads, so that only the few bytes that are looked at
+// All threads are at their end, and no promise is left. Written out for four threads, so that only the few bytes that are looked at
 // are read: the search asks this of every state.
 pub fn complete(p: Program, x: Machine) -> bool
     requires { ⌜ Formed p x ⌝ }

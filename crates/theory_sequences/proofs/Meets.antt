@@ -1,4 +1,4 @@
--- The answer with a budget meets demand 3, and nothing else does.
+-- The answer with a budget meets the demand, and nothing else does.
 use mathlib.Core.Path.{_≡_, refl, ap, sym, _∙_}
 use mathlib.Core.Bool.{Bool, true, false, true≢false}
 use mathlib.Core.Logic.{_⊎_, inl, inr, ⊎-elim}
@@ -49,7 +49,7 @@ module _ {A : Type 0} (wanted : List A → Bool) where
           let i : k < b = ltb-true k b e in
           rw (lt-ltb, f, visit) (later f (rec i))
 
-  -- the answer meets demand 3
+  -- the answer meets the demand
   pub meets : (l : List (List A)) (b : ℕ) → Demand wanted l b (answer wanted l b)
   unfolding answer
   meets l b = go (visit wanted b 0 l) (went b 0 l (omega arith))
@@ -123,7 +123,7 @@ module _ {A : Type 0} (wanted : List A → Bool) where
         let e = E .forbidden-if (F .2) (F .1) .1 in
         eqb-false 0 1 refl cc
 
-    -- demand 3 leaves one answer only
+    -- the demand leaves one answer only
     pub one-answer : (o o' : Answer A) → Demand wanted l b o → Demand wanted l b o' → o ≡ o'
     one-answer (allowed n p) (allowed m q) D E =
         let F = D .allowed-then n p refl in
@@ -164,7 +164,7 @@ module _ {A : Type 0} (wanted : List A → Bool) where
   unfolding answer
   more-budget-forbidden l b c n h e = ⊎-elim (λ i. absurd (eqb-false 0 1 refl cc)) (λ i. i ∙ e) (more b c 0 l h)
 
--- demand 3, of the list of all accepted sequences, whichever way it was come by
+-- the demand, over the list of all accepted sequences, whichever way it was come by
 pub demand-3 : (M : Stepping) (L : Lawful M) (n : ℕ) (s : M .State) → L .bound s ≤ n → (b : ℕ) (l : List (List (M .Step))) → Listed M s l
     → Demand (wanted M s) l b (answer (wanted M s) (upto M n s) b)
 demand-3 M L n s h b l i = rw (← only M L n s h l i) (meets (wanted M s) l b)

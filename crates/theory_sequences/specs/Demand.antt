@@ -1,4 +1,4 @@
--- Demand 3, word for word, of an answer o with budget b over a list l of sequences.
+-- What is demanded of an answer o with budget b over a list l of sequences: its verdict, count and trace.
 -- Assumes nothing.
 use mathlib.Core.Path.{_≡_}
 use mathlib.Core.Bool.{Bool, true, false}

@@ -19,7 +19,7 @@ Ascending R [] = Unit {0}
 Ascending {A} R (a ∷ l) = ((b : A) → Among b l → R a b) × Ascending R l
 
 module _ (M : Stepping) where
-  -- a sequence before its extensions; two others compare at their first differing step
+  -- a sequence is before all that begin with it; two others are in the order of the first steps in which they differ
   abbrev pub Before : List (M .Step) → List (M .Step) → Type 0
   Before x [] = ⊥
   Before [] (b ∷ y) = Unit {0}

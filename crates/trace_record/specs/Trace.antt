@@ -1,4 +1,4 @@
--- The bytes of a trace: for each step the mark 53 54, then kind, thread, a, b.
+-- The bytes of a trace: six for each step, which are the mark 53 54 and its kind, thread, a and b.
 -- Assumes nothing.
 use mathlib.Core.List.{List, [], _∷_, _++_}
 use Prim.Native.Nat.{ℕ}

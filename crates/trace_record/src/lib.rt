@@ -1,4 +1,4 @@
-// The six bytes of a step, both ways: the mark 53 54, then kind, thread, a, b.
+// The six bytes of a step, both ways: the mark 53 54 and its kind, thread, a and b.
 ghost use mathlib.Core.Path.{_≡_};
 ghost use Prim.Native.Nat.{_+_, _≤_};
 ghost use lib.ListN.{length};

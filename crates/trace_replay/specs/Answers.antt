@@ -14,16 +14,16 @@ pub use Rattle.trace_replay.specs.declared.ReplayAnswer.{ReplayAnswer}
 pub use Rattle.trace_replay.specs.declared.ReplayAnswer.the-variants.{Good, ProgramRefused, TraceRefused}
 pub use Rattle.trace_replay.specs.declared.Replayed.{Replayed}
 
--- a refusal: both yes-or-no answers are no
+-- a refusal: not complete, and the question does not hold
 abbrev pub refusedWith : ReplayAnswer → Program → ℕ → Machine → Replayed
 refusedWith refusal p n x = record { answer = refusal; program = p; steps = n; machine = x; complete = false; holds = false }
 
--- a refused trace gives the steps before the refusal and the machine after them; the place is the record's first byte
+-- a trace that is refused: how many steps came before, the machine they lead to, and the place where the refused record begins
 abbrev pub replayed : Program → ReplayEnd → Replayed
 replayed p (ended n x) = record { answer = Good; program = p; steps = n; machine = x; complete = complete p x; holds = asked p x }
 replayed p (broken k n x) = refusedWith (TraceRefused k n (6 * n)) p n x
 
--- a refused program file gives program, machine and counts of all 0
+-- a program file that is refused: no steps, a program of all 0 and the fresh machine
 abbrev pub onProgram : FileAnswer → List ℕ → Replayed
 onProgram (refused number place) t = refusedWith (ProgramRefused number place) noProgram 0 fresh
 onProgram (program p) t = replayed p (replayFrom p 0 fresh t)
