@@ -3,9 +3,10 @@
  *
  * Every call takes byte slices, each as a pointer and a length, and writes its answer into an area that the caller lends. It returns
  *
- *   0  the answer is written: exactly its bytes, at the start of the area; what lies behind them stays;
- *   1  the answer area is shorter than the answer: nothing is written, in no area;
- *   2  a program or machine value has another length than it should: nothing is written. (1 is tested first.)
+ *   BLYSKOTA_WRITTEN       the answer is written: exactly its bytes, at the start of the area; what lies behind them stays;
+ *   BLYSKOTA_SHORT_AREA    the answer area is shorter than the answer: nothing is written, in no area;
+ *   BLYSKOTA_WRONG_LENGTH  a program or machine value has another length than it should: nothing is written. (A short area is
+ *                          tested first.)
  *
  * What is in the bytes does not matter: any file, trace, program value and machine value gets an answer. What is not well formed is
  * refused by a number in the answer. The caller owes what C asks of any pointer: each points to as many bytes as its length says,
@@ -17,7 +18,7 @@
  * Stack, by the frames of the code for x86-64: 5 KiB for blyskota_read; 48 KiB for blyskota_certify, 50 KiB for blyskota_step and
  * 51 KiB for blyskota_replay; 202 KiB for both searches. No proof speaks of it: lend each call as much, and some for what calls it.
  *
- * Refusals: 1 to 10 in a program file, 1 and 2 in a trace file, 20 to 29 of a step, 30 of a search; 0 is none.
+ * README.md says byte by byte what a program file and a trace file are.
  */
 #ifndef BLYSKOTA_H
 #define BLYSKOTA_H
@@ -28,6 +29,49 @@
 #ifdef __cplusplus
 extern "C" {
 #endif
+
+/* What a call returns. */
+#define BLYSKOTA_WRITTEN 0
+#define BLYSKOTA_SHORT_AREA 1
+#define BLYSKOTA_WRONG_LENGTH 2
+
+/* The verdicts of a search. */
+#define BLYSKOTA_REFUSED 0
+#define BLYSKOTA_ALLOWED 1
+#define BLYSKOTA_FORBIDDEN 2
+#define BLYSKOTA_NOT_FINISHED 3
+
+/* The kinds of a step. */
+#define BLYSKOTA_EXECUTE 0
+#define BLYSKOTA_PROMISE 1
+
+/* Refusals; 0 is none. Those of a program file; the first two are also those of a trace file. */
+#define BLYSKOTA_REFUSED_INPUT_ENDS 1        /* the input ends before or inside a record that is needed */
+#define BLYSKOTA_REFUSED_OTHER_MARK 2        /* a record begins with another mark than the one due here */
+#define BLYSKOTA_REFUSED_VERSION 3           /* the version is not 1 */
+#define BLYSKOTA_REFUSED_THREADS 4           /* the number of threads is not 1 to 4 */
+#define BLYSKOTA_REFUSED_INSTRUCTIONS 5      /* a thread has more than 16 instructions */
+#define BLYSKOTA_REFUSED_INSTRUCTION_BYTE 6  /* a byte of an instruction is out of range, or is not 0 though it is not used */
+#define BLYSKOTA_REFUSED_STORES 7            /* a 17th store */
+#define BLYSKOTA_REFUSED_CONDITION 8         /* the number of conditions is above 8, or a byte of a condition is out of range */
+#define BLYSKOTA_REFUSED_BYTES_FOLLOW 9      /* bytes follow the last condition */
+#define BLYSKOTA_REFUSED_THREAD_NUMBER 10    /* the thread's number is not the next one */
+
+/* Those of a step; the first two are also those of a certification. */
+#define BLYSKOTA_REFUSED_NOT_WELL_FORMED 20  /* the program value or the machine value is not well formed */
+#define BLYSKOTA_REFUSED_NO_THREAD 21        /* there is no such thread */
+#define BLYSKOTA_REFUSED_STEP_KIND 22        /* the kind of the step is above 1, or b is not 0 in an execution */
+#define BLYSKOTA_REFUSED_LOCATION 23         /* the promised location is above 15 */
+#define BLYSKOTA_REFUSED_MEMORY_FULL 24      /* 16 messages stand in memory already */
+#define BLYSKOTA_REFUSED_AT_END 25           /* the thread is at its end */
+#define BLYSKOTA_REFUSED_NO_MESSAGE 26       /* a load finds no message to its location at that time, a store has not promised
+                                                its message at that time, any other instruction executes at time 0 only */
+#define BLYSKOTA_REFUSED_NEWER_MESSAGE 27    /* a load would pass over a newer message to its location that the thread must see */
+#define BLYSKOTA_REFUSED_VIEW_NOT_BELOW 28   /* a view that the store has to come after is not below its time */
+#define BLYSKOTA_REFUSED_NOT_CERTIFIED 29    /* alone, the thread could not keep its promises after the step */
+
+/* That of a search, after those of its program file. */
+#define BLYSKOTA_REFUSED_TRACE_AREA 30  /* the lent trace area is shorter than 480 bytes */
 
 /*
  * A program value, 487 bytes: version, threads, 4 x (instruction count, 16 x 7 bytes op m r k1 n1 k2 n2), condition count,
@@ -60,13 +104,13 @@ extern "C" {
 uint32_t blyskota_read(const uint8_t *file, size_t file_len, uint8_t *answer, size_t answer_len);
 
 /*
- * One step: kind 0 executes the next instruction of a thread at time a (b = 0), kind 1 promises location a, value b. Answer,
- * 342 bytes: refusal (0 accepted), the machine value after the step; a refused machine is as it came in.
+ * One step: BLYSKOTA_EXECUTE has the thread execute its next instruction at time a (b = 0), BLYSKOTA_PROMISE has it promise location
+ * a, value b. Answer, 342 bytes: refusal (0 accepted), the machine value after the step; a refused machine is as it came in.
  */
 uint32_t blyskota_step(const uint8_t *program, size_t program_len, const uint8_t *machine, size_t machine_len, uint8_t kind,
                        uint8_t thread, uint8_t a, uint8_t b, uint8_t *answer, size_t answer_len);
 
-/* Whether a thread is certified. Answer, 2 bytes: refusal (20, 21 or 0), certified (0 or 1). */
+/* Whether a thread is certified: alone, it can keep its promises. Answer, 2 bytes: refusal (20, 21 or 0), certified (0 or 1). */
 uint32_t blyskota_certify(const uint8_t *program, size_t program_len, const uint8_t *machine, size_t machine_len, uint8_t thread,
                           uint8_t *answer, size_t answer_len);
 
@@ -80,9 +124,8 @@ uint32_t blyskota_replay(const uint8_t *file, size_t file_len, const uint8_t *tr
 
 /*
  * Searches the accepted sequences of a program file in order, at most budget of them, for one that is complete with the asked
- * outcome. Answer, 12 bytes: verdict (0 refused, 1 allowed, 2 forbidden, 3 not finished), refusal (0 none), steps (at most 80; 0
- * unless allowed), 0, place u32 (0 unless refused), count u32 (the place of the sequence found, the number of all, or the budget; 0
- * where refused). Where the verdict is allowed, the first 6 bytes per step of the lent area are the trace file of the sequence that
+ * outcome. Answer, 12 bytes: verdict, refusal (0 none), steps (at most 80; 0 unless allowed), 0, place u32 (0 unless refused), count
+ * u32 (the place of the sequence found, the number of all, or the budget; 0 where refused). Where the verdict is allowed, the first 6 bytes per step of the lent area are the trace file of the sequence that
  * was found, and what lies behind them stays; otherwise the whole area does. An area under 480 bytes is refused with 30.
  */
 uint32_t blyskota_search(const uint8_t *file, size_t file_len, uint32_t budget, uint8_t *area, size_t area_len, uint8_t *answer,

@@ -9,105 +9,109 @@ A listing has one thread block for each thread, one instruction a line, then the
         store.rel [y], r0          store, store.rel (release); the address is one operand
         r1 = r0 xor 3              + - xor == ; r1 = 5 is r1 = 5 + 0
         beq r0, 1, +2              if equal, skip the next 2 instructions
+        bne r0, 1, +2              if not equal; counts as two instructions
         dmb sy                     dmb sy, dmb ld, dmb st, isb
     question
         0:r1 = 1                   register 1 of thread 0
         [x] = 2                    the last value of location x
+
+Spaces around signs count for nothing; a number is decimal or, as 0x1f, hexadecimal. An operand is a
+register, a number, or the name of a location, which stands for its number.
 """
 import re
 
-LOADS = {"load": 0, "load.acq": 1, "load.acqpc": 2}
-STORES = {"store": 0, "store.rel": 1}
-FENCES = {"dmb sy": 0, "dmb ld": 1, "dmb st": 2, "isb": 3}
-COMPUTES = {"+": 0, "-": 1, "xor": 2, "==": 3}
-COMPUTE, LOAD, STORE, BRANCH, FENCE = range(5)
+import command
+from command import Refused
+from listing_line import STORE, Fault, Lines, location_names, plain, spaced
 
-
-class Fault(Exception):
-    """A line that is no part of a listing."""
+THREADS, INSTRUCTIONS, STORES, CONDITIONS = 4, 16, 16, 8
+LONGEST_LINE = 1000
 
 
 class Listing:
     """The listing read so far: the threads' instructions and the question's conditions."""
 
     def __init__(self):
-        self.names = {"x": 0, "y": 1, "z": 2, "w": 3}
-        self.threads = []
+        self.lines = Lines({"x": 0, "y": 1, "z": 2, "w": 3})
+        self.named = False
+        self.written = []
         self.conditions = []
         self.block = None
+        self.asked_at = None
 
-    def line(self, text):
-        if text.startswith("locations "):
-            self.names = {name: number for number, name in enumerate(text.split()[1:])}
-        elif text == "thread":
-            self.threads.append([])
-            self.block = text
-        elif text == "question":
-            self.block = text
+    def line(self, text, number):
+        first = re.match(r"\w*", text)[0]
+        if first == "locations":
+            self.locations(text.removeprefix("locations"))
+        elif first in ("thread", "question") and text != first:
+            raise Fault(f"write `{first}` alone on its line; threads are numbered 0, 1, .. as they come")
+        elif first == "thread":
+            self.begin_thread()
+        elif first == "question":
+            self.begin_question(number)
         elif self.block == "thread":
-            self.threads[-1].append(self.instruction(text))
+            self.instruction(text, number)
         elif self.block == "question":
-            self.conditions.append(self.condition(text))
+            self.condition(text)
         else:
-            raise Fault("a line before the first thread")
+            raise Fault(f"`{spaced(text)}` stands before the first thread: write thread first, and before that "
+                        "nothing but locations x y")
 
-    def instruction(self, text):
-        if text in FENCES:
-            return [FENCE, FENCES[text], 0, 0, 0, 0, 0]
-        for pattern, build in (
-            (r"r([0-7]) = (load\S*) \[([^\]]*)\]", self.load),
-            (r"(store\S*) \[([^\]]*)\], (\w+)", self.store),
-            (r"beq (\w+), (\w+), \+(\d+)", self.branch),
-            (r"r([0-7]) = (\w+)(?: (\S+) (\w+))?", self.compute),
-        ):
-            found = re.fullmatch(pattern, text)
-            if found:
-                return build(*found.groups())
-        raise Fault("no instruction")
+    def locations(self, names):
+        if self.named or self.block:
+            raise Fault("locations are named once, before the first thread: put all names into one line there")
+        self.lines = Lines(location_names(names))
+        self.named = True
 
-    def load(self, into, mode, address):
-        left, *right = address.split(" + ")
-        if len(right) > 1 or mode not in LOADS:
-            raise Fault("no load")
-        right = self.operand(right[0]) if right else [0, 0]
-        return [LOAD, LOADS[mode], int(into), *self.operand(left), *right]
+    def begin_thread(self):
+        if self.block == "question":
+            raise Fault("a thread after the question: write the threads first")
+        if len(self.written) == THREADS:
+            raise Fault(f"a fifth thread: a program has at most {THREADS}, leave one out")
+        self.written.append([])
+        self.block = "thread"
 
-    def store(self, mode, address, data):
-        if mode not in STORES:
-            raise Fault("no store")
-        return [STORE, STORES[mode], 0, *self.operand(address), *self.operand(data)]
+    def begin_question(self, number):
+        if self.block == "question":
+            raise Fault("a second question: ask one thing, in one block, and the other in a listing of its own")
+        if not self.written:
+            raise Fault("a question before any thread: write the threads first")
+        self.block, self.asked_at = "question", number
 
-    def branch(self, left, right, skip):
-        return [BRANCH, self.constant(skip), 0, *self.operand(left), *self.operand(right)]
-
-    def compute(self, into, left, how, right):
-        if (how or "+") not in COMPUTES:
-            raise Fault("no operation")
-        return [COMPUTE, COMPUTES[how or "+"], int(into), *self.operand(left), *self.operand(right or "0")]
-
-    def operand(self, text):
-        if re.fullmatch(r"r[0-7]", text):
-            return [1, int(text[1])]
-        return [0, self.constant(text)]
-
-    def constant(self, text):
-        if text in self.names:
-            return self.names[text]
-        if text.isdigit() and int(text) < 256:
-            return int(text)
-        raise Fault(f"no register, location or number below 256: {text}")
+    def instruction(self, text, number):
+        new = self.lines.instruction(text)
+        new.line = number
+        code = self.written[-1]
+        if records_of(code + [new]) > INSTRUCTIONS:
+            twice = " (a bne is two)" if any(len(written.records) > 1 for written in code + [new]) else ""
+            raise Fault(f"thread {len(self.written) - 1} has more than {INSTRUCTIONS} instructions{twice}: shorten it")
+        code.append(new)
+        if sum(written.records[0][0] == STORE for thread in self.written for written in thread) > STORES:
+            raise Fault(f"the 17th store: a program has at most {STORES}, all threads together; leave one out")
 
     def condition(self, text):
-        found = re.fullmatch(r"(\d):r([0-7]) = (\d+)", text)
-        if found:
-            return [0, int(found[1]), int(found[2]), self.constant(found[3])]
-        found = re.fullmatch(r"\[(\w+)\] = (\d+)", text)
-        if found:
-            return [1, 0, self.constant(found[1]), self.constant(found[2])]
-        raise Fault("no condition")
+        condition = self.lines.condition(text, len(self.written))
+        if len(self.conditions) == CONDITIONS:
+            raise Fault(f"a ninth condition: a question has at most {CONDITIONS}, leave one out")
+        self.conditions.append(condition)
+
+    def finish(self):
+        """What only the listing's end can tell."""
+        if not self.written:
+            raise Fault("no thread: write thread and its instructions, one a line, then question")
+        if self.block != "question":
+            raise Fault("no question: end with the line question and its conditions under it; question alone asks "
+                        "whether any run ends")
+        for code in self.written:
+            place_branches(code)
+
+    @property
+    def threads(self):
+        """The records of each thread's instructions."""
+        return [[record for written in code for record in written.records] for code in self.written]
 
     def program(self):
-        """The program file, whose ranges the judge's reader tests."""
+        """The program file."""
         file = bytearray(b"PG" + bytes([1, len(self.threads)]))
         for number, instructions in enumerate(self.threads):
             file += b"TH" + bytes([number, len(instructions)])
@@ -119,18 +123,56 @@ class Listing:
         return bytes(file)
 
 
-def parse(path):
-    """The listing at the path."""
-    listing = Listing()
-    with open(path, encoding="utf-8") as lines:
-        for number, line in enumerate(lines, 1):
-            text = " ".join(line.split("#")[0].split())
-            try:
-                if text:
-                    listing.line(text)
-            except Fault as fault:
-                raise Fault(f"{path}:{number}: {fault}: {text}") from None
+def records_of(code):
+    """How many instructions of the machine the written ones are."""
+    return sum(len(written.records) for written in code)
+
+
+def place_branches(code):
+    """Each branch skips as many records as the instructions that it skips have."""
+    for place, written in enumerate(code):
+        if written.skip is None:
+            continue
+        after = code[place + 1:]
+        if written.skip > len(after):
+            raise Fault(f"the branch goes past the end of its thread: write at most +{len(after)}, which leads to the "
+                        "end", written.line)
+        written.records[-1][1] = records_of(after[:written.skip])
+
+
+def of_bytes(data, name):
+    """The listing that these bytes are; messages call it by the name."""
+    if len(data) > command.LONGEST:
+        raise Refused(f"{name}: longer than a million bytes: no listing")
+    if data.startswith(b"PG"):
+        raise Refused(f"{name}: is a program file already: ./judge takes it as it is")
+    try:
+        text = data.decode("utf-8-sig")
+    except UnicodeDecodeError:
+        raise Refused(f"{name}: is no text in UTF-8, so no listing, and does not begin as a program file") from None
+    listing, number = Listing(), 0
+    try:
+        for number, line in enumerate(text.removesuffix("\n").split("\n"), 1):
+            words = plain(line)
+            if len(words) > LONGEST_LINE:
+                raise Fault(f"a line of more than {LONGEST_LINE} characters: write one instruction a line")
+            if words:
+                listing.line(words, number)
+        listing.finish()
+    except Fault as fault:
+        raise Refused(f"{name}:{fault.line or number}: {fault}") from None
     return listing
+
+
+def notes(listing, name):
+    """What its writer should know, though it is no fault."""
+    if not listing.conditions:
+        yield f"{name}:{listing.asked_at}: note: the question is empty, so it asks whether any run ends"
+
+
+def parse(path):
+    """The listing at the path, - being standard input."""
+    return of_bytes(command.read(path), command.name_of(path))
 
 
 def stated(path):

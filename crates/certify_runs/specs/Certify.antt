@@ -1,4 +1,4 @@
--- Certification: whether a thread that goes on from here by itself can come to a state without outstanding promises, this one included.
+-- Certification: a thread that runs by itself on this memory can come to a state without outstanding promises, this one included.
 -- Assumes nothing.
 use mathlib.Core.Bool.{Bool, false, _&&_, _||_}
 use mathlib.Core.Option.{Option, none, some}

@@ -63,7 +63,7 @@ abbrev pub branchDone : ℕ → Operand → Operand → Thread → Thread
 branchDone n a b s = advance (branchBy (eqb (valueOf s a) (valueOf s b)) n) (withViews (raiseCap (viewOf₂ s a b) (s .views)) s)
 
 -- ---- load at time t; l is the location, va the address view
--- the pre-view: address view and rNew; of an acquire, unless it is weak, Rel as well
+-- the pre-view merges the address view and rNew, and for an acquire that is not weak Rel too
 abbrev pub loadPre : LoadMode → ℕ → Views → ℕ
 loadPre PlainLoad va w = max va (w .rNew)
 loadPre Acquire va w = max (max va (w .rNew)) (w .rel)
@@ -77,7 +77,7 @@ readable m l t = eqb t 0 || (leb t (m .count) && eqb ((messageAt m t) .location)
 abbrev pub newer : Memory → ℕ → ℕ → ℕ → ℕ → Bool
 newer m l t v u = eqb ((messageAt m u) .location) l && ltb t u && leb u v
 
--- l has no message later than t, as far as time v
+-- no message to l stands after time t and up to time v
 unfoldable pub noneNewer : Memory → ℕ → ℕ → ℕ → Bool
 noneNewer m l t v = below (λ k. not (newer m l t v (suc k))) (m .count)
 
@@ -111,7 +111,7 @@ loadAt k r m t l va s =
     (next (loadDone k r m t l va (max pre (readView s l t)) s)))
 
 -- ---- store at time t; l is the location, v the value, va and vd the views of address and data
--- the pre-view: the views of both operands, wNew and CAP; of a release, rOld and wOld as well
+-- the pre-view merges the views of both operands, wNew and CAP, and for a release rOld and wOld too
 abbrev pub storePre : StoreMode → ℕ → ℕ → Views → ℕ
 storePre PlainStore va vd w = max (max va vd) (max (w .wNew) (w .cap))
 storePre Release va vd w = max (max (max va vd) (max (w .wNew) (w .cap))) (max (w .rOld) (w .wOld))

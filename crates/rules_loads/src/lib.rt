@@ -13,7 +13,7 @@ use machine::merge::larger;
 use machine::merge::smaller;
 use program::LoadMode;
 
-// The pre-view: address view and rNew; of an acquire, unless it is weak, Rel as well.
+// The pre-view merges the address view and rNew, and for an acquire that is not weak Rel too.
 pub fn load_pre(k: LoadMode, va: u8, w: Views) -> u8
     ensures { λ r. ⌜ r ≡ loadPre k va w ⌝ }
 {
@@ -38,7 +38,7 @@ pub fn readable(m: Memory, l: u8, t: u8) -> bool
     m.message_at(t).location == l
 }
 
-// Location l has no message later than t, as far as time v: those times are looked at from the newest on.
+// No message to l stands after time t and up to time v: those times are looked at from the newest on.
 pub fn none_newer(m: Memory, l: u8, t: u8, v: u8) -> bool
     requires { ⌜ m .count ≤ 16 ⌝ }
     ensures { λ r. ⌜ r ≡ noneNewer m l t v ⌝ }

@@ -15,7 +15,7 @@ use machine::merge::larger;
 use machine::promises::has;
 use program::StoreMode;
 
-// The pre-view: the views of both operands, wNew and CAP; of a release, rOld and wOld as well.
+// The pre-view merges the views of both operands, wNew and CAP, and for a release rOld and wOld too.
 pub fn store_pre(k: StoreMode, va: u8, vd: u8, w: Views) -> u8
     ensures { λ r. ⌜ r ≡ storePre k va vd w ⌝ }
 {

@@ -1,0 +1,122 @@
+"""The proved printing program, target/bin/judge: built where it is missing or older than its sources, and run."""
+import ctypes
+import fcntl
+import os
+import pathlib
+import re
+import resource
+import shutil
+import signal
+import subprocess
+import sys
+
+from command import NotDone
+
+ROOT = pathlib.Path(__file__).resolve().parent.parent
+PROGRAM = ROOT / "target" / "bin" / "judge"
+# When the program was last found to be that of the sources: rt does not link again what has not changed.
+CURRENT = ROOT / "target" / "judge-is-current"
+LOG = ROOT / "target" / "judge-build.log"
+# The table of known machines, 4 MiB, stands on the stack.
+STACK = 8 << 20
+
+
+def say(text, end="\n"):
+    print(f"judge: {text}", end=end, file=sys.stderr, flush=True)
+
+
+def rooms():
+    """The crates that the program is made of, by crates.txt."""
+    uses = {}
+    for line in (ROOT / "crates.txt").read_text().splitlines():
+        if found := re.match(r"(\w+):(.*)", line):
+            uses[found[1]] = found[2].split()
+    needed, new = set(), {"judge"}
+    while new:
+        needed |= new
+        new = {used for name in new for used in uses[name] if used in uses} - needed
+    return needed
+
+
+def is_current():
+    """Whether no source has changed since the program was built."""
+    if not PROGRAM.exists():
+        return False
+    built = max(path.stat().st_mtime for path in (PROGRAM, CURRENT) if path.exists())
+    folders = [ROOT / "crates" / room / part for room in rooms() for part in ("src", "specs", "proofs")]
+    sources = [path for folder in folders for path in folder.rglob("*")]
+    return all(path.stat().st_mtime <= built for path in [ROOT / "crates.txt", *sources])
+
+
+def build():
+    """Has rt prove and link the program, and says how far it is."""
+    if not shutil.which("rt"):
+        raise NotDone("rt, the command of the Rattle kit, is not in PATH: it is needed to prove and build the judge")
+    total, proved = len(rooms()), 0
+    say(f"proving and building the judge from its sources, some minutes the first time; the log is {LOG}")
+    with LOG.open("w") as log:
+        rt = subprocess.Popen(["rt", "check", "judge"], cwd=ROOT, stdout=subprocess.PIPE, stderr=subprocess.STDOUT,
+                              text=True)
+        for line in rt.stdout:
+            log.write(line)
+            log.flush()
+            if re.match(r"rt: \w+ proved", line):
+                proved += 1
+                show_progress(proved, total)
+        status = rt.wait()
+    if status:
+        raise NotDone(f"the judge could not be proved and built: rt ended with {status}; read {LOG}")
+    CURRENT.touch()
+
+
+def show_progress(proved, total):
+    """On a terminal one line that changes; elsewhere a line now and then."""
+    if sys.stderr.isatty():
+        say(f"{proved} of {total} crates proved", end="\n" if proved == total else "\r")
+    elif proved % 10 == 0 or proved == total:
+        say(f"{proved} of {total} crates proved")
+
+
+def make_current():
+    """Builds the program if it is missing or old; one build at a time, the others wait for it."""
+    if is_current():
+        return
+    LOG.parent.mkdir(exist_ok=True)
+    with (LOG.parent / "judge-build.lock").open("w") as lock:
+        fcntl.flock(lock, fcntl.LOCK_EX)
+        if not is_current():
+            build()
+
+
+def command():
+    """How it is started: it is for x86-64, and for other processors the kit has an emulator."""
+    machine = os.uname().machine
+    if machine == "x86_64":
+        return [PROGRAM]
+    rt = shutil.which("rt")
+    if not rt:
+        raise NotDone(f"rt, the command of the Rattle kit, is not in PATH: on {machine} the judge runs in the kit's "
+                      "emulator")
+    kit = pathlib.Path(rt).resolve().parent.parent / "on" / machine / "toolchain"
+    return [kit / "bin" / "qemu-x86_64", kit / "lib" / "ld-linux-x86-64.so.2", "--library-path", kit / "lib", PROGRAM]
+
+
+def before_start():
+    """In the new process: room on the stack, and an end together with the command, however that ends."""
+    soft, hard = resource.getrlimit(resource.RLIMIT_STACK)
+    if soft != resource.RLIM_INFINITY and soft < STACK:
+        resource.setrlimit(resource.RLIMIT_STACK, (STACK, hard))
+    ctypes.CDLL(None).prctl(1, signal.SIGKILL)
+
+
+def run(program, budget):
+    """What it prints for a program file, of which it reads 4,096 bytes at most."""
+    _, hard = resource.getrlimit(resource.RLIMIT_STACK)
+    if hard != resource.RLIM_INFINITY and hard < STACK:
+        raise NotDone(f"the stack is limited to {hard >> 10} KiB and {STACK >> 10} are needed: raise the limit "
+                      "(ulimit -s)")
+    make_current()
+    ended = subprocess.run([*command(), budget], input=program[:4096], stdout=subprocess.PIPE, preexec_fn=before_start)
+    if ended.returncode:
+        raise NotDone(f"the judge ended with {ended.returncode} and without an answer")
+    return ended.stdout.decode()
