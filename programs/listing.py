@@ -2,18 +2,17 @@
 
 A listing has one thread block for each thread, one instruction a line, then the question:
 
-    # from here to the line's end is a comment
-    locations x y z w              names for locations 0, 1, 2, ..; these four unless given
+    locations x y                  # names for locations 0, 1, ..; x y z w without this line
     thread
-        r0 = load [x + r1]         load, load.acq (acquire), load.acqpc (weak acquire)
-        store.rel [y], r0          store, store.rel (release); the address is one operand
-        r1 = r0 xor 3              + - xor == ; r1 = 5 is r1 = 5 + 0
-        beq r0, 1, +2              if equal, skip the next 2 instructions
-        bne r0, 1, +2              if not equal; counts as two instructions
-        dmb sy                     dmb sy, dmb ld, dmb st, isb
-    question
-        0:r1 = 1                   register 1 of thread 0
-        [x] = 2                    the last value of location x
+        r0 = load [x + r1]         # load, load.acq (acquire), load.acqpc (weak acquire)
+        store.rel [y], r0          # store, store.rel (release); the address is one operand
+        r1 = r0 xor 3              # + - xor == ; r1 = 5 is r1 = 5 + 0
+        beq r0, 1, +2              # if equal, skip the next 2 instructions
+        bne r0, 1, +1              # if not equal; counts as two instructions
+        dmb sy                     # dmb sy, dmb ld, dmb st, isb
+    question                       # may Armv8 cores end like this?
+        0:r1 = 1                   # register 1 of thread 0
+        [x] = 2                    # the last value of location x
 
 Spaces around signs count for nothing; a number is decimal or, as 0x1f, hexadecimal. An operand is a
 register, a number, or the name of a location, which stands for its number.

@@ -44,7 +44,8 @@ def is_current():
         return False
     built = max(path.stat().st_mtime for path in (PROGRAM, CURRENT) if path.exists())
     folders = [ROOT / "crates" / room / part for room in rooms() for part in ("src", "specs", "proofs")]
-    sources = [path for folder in folders for path in folder.rglob("*")]
+    # A folder is newer than a file that was taken out of it.
+    sources = [path for folder in folders if folder.exists() for path in (folder, *folder.rglob("*"))]
     return all(path.stat().st_mtime <= built for path in [ROOT / "crates.txt", *sources])
 
 
