@@ -34,6 +34,7 @@ INSTEAD = {
     "isb": "write isb alone",
     "load": "write r0 = load [x]",
     "store": "write store [x], r0",
+    "exists": "end with a line question, and under it 0:r0 = 1",
     "ldxr": EXCLUSIVES,
     "ldaxr": EXCLUSIVES,
     "stxr": EXCLUSIVES,
@@ -87,7 +88,7 @@ def register(text):
 
 
 class Lines:
-    """Reads lines by the names that locations have."""
+    """Reads lines, by the names that locations have."""
 
     def __init__(self, names):
         self.names = names
@@ -110,6 +111,9 @@ class Lines:
         first = re.match(r"[\w.]*", text)[0]
         if first.lower() in INSTEAD:
             return Fault(f"`{spaced(text)}` is no instruction here: {INSTEAD[first.lower()]}")
+        if re.match(r"\w+:|\[", text):
+            return Fault(f"`{spaced(text)}` is no instruction: a condition stands under the line question, after all "
+                         "threads")
         if "//" in text or ";" in text:
             return Fault(f"`{spaced(text)}` is no instruction: a comment begins with #, and a line has one instruction")
         return Fault(f"`{spaced(text)}` is no instruction: there are r0 = load [x], store [x], 1, r0 = r1 + 2, "

@@ -9,6 +9,7 @@ import shutil
 import signal
 import subprocess
 import sys
+import time
 
 from command import NotDone
 
@@ -49,33 +50,36 @@ def is_current():
     return all(path.stat().st_mtime <= built for path in [ROOT / "crates.txt", *sources])
 
 
-def build():
-    """Has rt prove and link the program, and says how far it is."""
+def build(lock):
+    """Has rt prove and link the program, and says how far it is. If the command is ended before rt is, rt goes on and
+    keeps the lock."""
     if not shutil.which("rt"):
         raise NotDone("rt, the command of the Rattle kit, is not in PATH: it is needed to prove and build the judge")
-    total, proved = len(rooms()), 0
     say(f"proving and building the judge from its sources, some minutes the first time; the log is {LOG}")
     with LOG.open("w") as log:
-        rt = subprocess.Popen(["rt", "check", "judge"], cwd=ROOT, stdout=subprocess.PIPE, stderr=subprocess.STDOUT,
-                              text=True)
-        for line in rt.stdout:
-            log.write(line)
-            log.flush()
-            if re.match(r"rt: \w+ proved", line):
-                proved += 1
-                show_progress(proved, total)
-        status = rt.wait()
+        rt = subprocess.Popen(["rt", "check", "judge"], cwd=ROOT, stdout=log, stderr=log, pass_fds=[lock.fileno()])
+    total, shown, status = len(rooms()), 0, None
+    while status is None:
+        time.sleep(0.2)
+        status = rt.poll()
+        proved = len(re.findall(r"^rt: \w+ proved", LOG.read_text(errors="replace"), re.MULTILINE))
+        shown = show_progress(shown, proved, total)
     if status:
         raise NotDone(f"the judge could not be proved and built: rt ended with {status}; read {LOG}")
     CURRENT.touch()
 
 
-def show_progress(proved, total):
-    """On a terminal one line that changes; elsewhere a line now and then."""
+def show_progress(shown, proved, total):
+    """On a terminal one line that changes; elsewhere a line now and then. Gives the number that was shown last."""
+    if proved == shown:
+        return shown
     if sys.stderr.isatty():
         say(f"{proved} of {total} crates proved", end="\n" if proved == total else "\r")
-    elif proved % 10 == 0 or proved == total:
+    elif proved < shown + 10 and proved < total:
+        return shown
+    else:
         say(f"{proved} of {total} crates proved")
+    return proved
 
 
 def make_current():
@@ -84,9 +88,13 @@ def make_current():
         return
     LOG.parent.mkdir(exist_ok=True)
     with (LOG.parent / "judge-build.lock").open("w") as lock:
-        fcntl.flock(lock, fcntl.LOCK_EX)
+        try:
+            fcntl.flock(lock, fcntl.LOCK_EX | fcntl.LOCK_NB)
+        except BlockingIOError:
+            say("the judge is being built already, waiting for that")
+            fcntl.flock(lock, fcntl.LOCK_EX)
         if not is_current():
-            build()
+            build(lock)
 
 
 def command():

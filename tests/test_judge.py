@@ -95,8 +95,8 @@ class Refused(CommandTest):
     def test_files_without_an_end(self):
         self.holds((REFUSED, "refused 2 at 0\n", f"/dev/zero: byte 0: {refusals.MEANINGS[2]}{AGAIN}"), JUDGE, "/dev/zero")
         self.file("e", PROGRAM)
-        self.holds((REFUSED, f"refused 9 at {len(PROGRAM)}\n", f"standard input: byte {len(PROGRAM)}: {refusals.MEANINGS[9]}{AGAIN}"),
-                   "bash", "-c", f"cat e /dev/zero 2> /dev/null | {JUDGE} -")
+        said = f"standard input: byte {len(PROGRAM)}: {refusals.MEANINGS[9]}{AGAIN}"
+        self.holds((REFUSED, f"refused 9 at {len(PROGRAM)}\n", said), "bash", "-c", f"cat e /dev/zero 2> /dev/null | {JUDGE} -")
 
 
 class NotDone(CommandTest):
@@ -173,11 +173,14 @@ class Ended(CommandTest):
 
 
 # Stands for rt: says what rt says of each crate, and puts the real program where rt would link it.
+SOME = 15
 RT = """#!/bin/sh
 [ "$*" = "check judge" ] || exit 2
 echo run >> rt-runs
 [ -z "$RT_FAILS" ] || {{ echo "rt: program: something is not proved"; exit 1; }}
-for crate in {crates}; do echo "rt: $crate proved (1 s)"; done
+for crate in {some}; do echo "rt: $crate proved (1 s)"; done
+[ -z "$RT_SLEEPS" ] || sleep 2
+for crate in {others}; do echo "rt: $crate proved (1 s)"; done
 mkdir -p target/bin
 cp {program} target/bin/judge
 """
@@ -195,7 +198,8 @@ class Built(CommandTest):
             self.file(f"crates/{crate}/src/lib.rt", "")
         (self.folder / "bin").mkdir()
         (self.folder / "bin" / "python3").symlink_to(sys.executable)
-        self.rt = self.file("bin/rt", RT.format(crates=" ".join(self.crates), program=printing_program.PROGRAM))
+        self.rt = self.file("bin/rt", RT.format(some=" ".join(self.crates[:SOME]), others=" ".join(self.crates[SOME:]),
+                                                program=printing_program.PROGRAM))
         self.rt.chmod(0o755)
         self.file("e", PROGRAM)
         self.log = self.folder.resolve() / "target" / "judge-build.log"
@@ -211,14 +215,14 @@ class Built(CommandTest):
         """As if it were changed a minute from now."""
         os.utime(self.folder / path, (time.time() + 60, time.time() + 60))
 
-    def said(self):
+    def said(self, *counts):
+        """What is said of a build that was looked at when so many crates were proved, and at its end."""
         total = len(self.crates)
-        counts = [*range(10, total, 10), total]
         return (f"judge: proving and building the judge from its sources, some minutes the first time; the log is {self.log}\n"
-                + "".join(f"judge: {count} of {total} crates proved\n" for count in counts))
+                + "".join(f"judge: {count} of {total} crates proved\n" for count in [*counts, total]))
 
     def test_the_first_build_says_what_it_does_and_how_far_it_is(self):
-        self.assertEqual(self.judged(), (ALLOWED, RUN.encode(), self.said()))
+        self.assertEqual(self.judged(RT_SLEEPS="yes"), (ALLOWED, RUN.encode(), self.said(SOME)))
         self.assertEqual(self.log.read_text().count("proved (1 s)"), len(self.crates))
 
     def test_what_is_current_is_not_built_again(self):
@@ -236,6 +240,18 @@ class Built(CommandTest):
                 self.later(source)
                 self.assertEqual(self.judged()[0::2], (ALLOWED, self.said()))
                 self.assertEqual(self.runs(), before + 1)
+
+    def test_one_build_at_a_time_also_if_its_command_is_killed(self):
+        path = f"{self.folder}/bin:/usr/bin:/bin"
+        first = subprocess.Popen(["bin/python3", "judge", "e"], cwd=self.folder, stdout=subprocess.DEVNULL,
+                                 stderr=subprocess.PIPE, text=True, env={**os.environ, "PATH": path, "RT_SLEEPS": "yes"})
+        self.assertIn("proving and building", first.stderr.readline())
+        while not self.runs():
+            time.sleep(0.05)
+        first.kill()
+        first.communicate()
+        self.assertEqual(self.judged(), (ALLOWED, RUN.encode(), "judge: the judge is being built already, waiting for that\n"))
+        self.assertEqual(self.runs(), 1)
 
     def test_a_refused_listing_needs_no_program(self):
         self.file("e", "thread\n")
