@@ -32,10 +32,11 @@ class CommandTest(unittest.TestCase):
     def run_command(self, *words, given=b"", environment=None):
         """Status, standard output and standard error of a command in the folder."""
         ended = subprocess.run(words, input=given if isinstance(given, bytes) else given.encode(), cwd=self.folder,
-                               capture_output=True, env={**os.environ, **(environment or {})})
+                               capture_output=True, env={**os.environ, **(environment or {})}, timeout=600)
         return ended.returncode, ended.stdout, ended.stderr.decode()
 
     def holds(self, expected, *words, **settings):
         """The command ends with this status, this standard output and this standard error."""
         status, out, err = expected
-        self.assertEqual(self.run_command(*words, **settings), (status, out if isinstance(out, bytes) else out.encode(), err))
+        out = out if isinstance(out, bytes) else out.encode()
+        self.assertEqual(self.run_command(*words, **settings), (status, out, err))

@@ -133,43 +133,50 @@ class NotDone(CommandTest):
                    "bash", "-c", f"ulimit -s 1024; {JUDGE} e")
 
 
+def end(process):
+    """Nothing is left running, whatever a test comes to."""
+    try:
+        os.kill(process, signal.SIGKILL)
+    except ProcessLookupError:
+        pass
+
+
 class Ended(CommandTest):
     def start(self):
         """A search that does not end by itself, and the process that searches."""
         self.file("endless.litmus", ENDLESS)
-        command = subprocess.Popen([JUDGE, "endless.litmus", "all"], cwd=self.folder, stdout=subprocess.PIPE,
-                                   stderr=subprocess.PIPE, text=True)
+        with (self.folder / "said").open("w") as said:
+            # A shell has what it starts in the background ignore interrupts.
+            command = subprocess.Popen([JUDGE, "endless.litmus", "all"], cwd=self.folder, stdout=said, stderr=said,
+                                       preexec_fn=lambda: signal.signal(signal.SIGINT, signal.SIG_DFL))
         for _ in range(600):
             children = pathlib.Path(f"/proc/{command.pid}/task/{command.pid}/children").read_text().split()
             if children:
+                self.addCleanup(end, int(children[0]))
+                # By then it has become the search.
+                time.sleep(0.5)
                 return command, pathlib.Path("/proc") / children[0]
             time.sleep(0.05)
         self.fail("no search was started")
 
-    def gone(self, process):
+    def ended(self, how):
+        """The command's status and what it has said, after this signal; the search is gone then."""
+        command, search = self.start()
+        self.assertTrue(search.exists())
+        command.send_signal(how)
+        status = command.wait(timeout=20)
         for _ in range(100):
-            if not process.exists():
-                return True
+            if not search.exists():
+                return status, (self.folder / "said").read_text()
             time.sleep(0.05)
-        return False
+        self.fail("the search goes on")
 
     def test_interrupted(self):
-        command, search = self.start()
-        time.sleep(0.5)
-        command.send_signal(signal.SIGINT)
-        self.assertEqual(command.communicate(), ("", "judge: interrupted\n"))
-        self.assertEqual(command.returncode, INTERRUPTED)
-        self.assertTrue(self.gone(search))
+        self.assertEqual(self.ended(signal.SIGINT), (INTERRUPTED, "judge: interrupted\n"))
 
     def test_the_search_ends_with_the_command_however_that_is_ended(self):
-        for how in (signal.SIGTERM, signal.SIGKILL):
-            with self.subTest(how):
-                command, search = self.start()
-                time.sleep(0.5)
-                command.send_signal(how)
-                command.communicate()
-                self.assertEqual(command.returncode, -how)
-                self.assertTrue(self.gone(search))
+        self.assertEqual(self.ended(signal.SIGTERM), (-signal.SIGTERM, ""))
+        self.assertEqual(self.ended(signal.SIGKILL), (-signal.SIGKILL, ""))
 
 
 # Stands for rt: says what rt says of each crate, and puts the real program where rt would link it.
@@ -246,7 +253,9 @@ class Built(CommandTest):
         first = subprocess.Popen(["bin/python3", "judge", "e"], cwd=self.folder, stdout=subprocess.DEVNULL,
                                  stderr=subprocess.PIPE, text=True, env={**os.environ, "PATH": path, "RT_SLEEPS": "yes"})
         self.assertIn("proving and building", first.stderr.readline())
-        while not self.runs():
+        for _ in range(100):
+            if self.runs():
+                break
             time.sleep(0.05)
         first.kill()
         first.communicate()
