@@ -36,9 +36,15 @@ class Listing:
         self.written = []
         self.conditions = []
         self.block = None
-        self.asked_at = None
+        # Line and text of what its writer should know, though it is no fault.
+        self.notes = []
 
     def line(self, text, number):
+        self.read(text, number)
+        self.notes += [(number, note) for note in self.lines.notes]
+        self.lines.notes.clear()
+
+    def read(self, text, number):
         first = re.match(r"\w*", text)[0]
         if first == "locations":
             self.locations(text.removeprefix("locations"))
@@ -47,7 +53,7 @@ class Listing:
         elif first == "thread":
             self.begin_thread()
         elif first == "question":
-            self.begin_question(number)
+            self.begin_question()
         elif self.block == "thread":
             self.instruction(text, number)
         elif self.block == "question":
@@ -70,12 +76,12 @@ class Listing:
         self.written.append([])
         self.block = "thread"
 
-    def begin_question(self, number):
+    def begin_question(self):
         if self.block == "question":
             raise Fault("a second question: ask one thing, in one block, and the other in a listing of its own")
         if not self.written:
             raise Fault("a question before any thread: write the threads first")
-        self.block, self.asked_at = "question", number
+        self.block = "question"
 
     def instruction(self, text, number):
         new = self.lines.instruction(text)
@@ -94,8 +100,8 @@ class Listing:
             raise Fault(f"a ninth condition: a question has at most {CONDITIONS}, leave one out")
         self.conditions.append(condition)
 
-    def finish(self):
-        """What only the listing's end can tell."""
+    def finish(self, number):
+        """What only the listing's end can tell, which is the line of this number."""
         if not self.written:
             raise Fault("no thread: write thread and its instructions, one a line, then question")
         if self.block != "question":
@@ -103,6 +109,8 @@ class Listing:
                         "whether any run ends")
         for code in self.written:
             place_branches(code)
+        if not self.conditions:
+            self.notes.append((number, "the question is empty, so it asks whether any run ends"))
 
     @property
     def threads(self):
@@ -157,16 +165,16 @@ def of_bytes(data, name):
                 raise Fault(f"a line of more than {LONGEST_LINE} characters: write one instruction a line")
             if words:
                 listing.line(words, number)
-        listing.finish()
+        listing.finish(number)
     except Fault as fault:
         raise Refused(f"{name}:{fault.line or number}: {fault}") from None
     return listing
 
 
-def notes(listing, name):
-    """What its writer should know, though it is no fault."""
-    if not listing.conditions:
-        yield f"{name}:{listing.asked_at}: note: the question is empty, so it asks whether any run ends"
+def say_notes(listing, name):
+    """Says on standard error what its writer should know."""
+    for number, note in listing.notes:
+        command.say(f"{name}:{number}: note: {note}")
 
 
 def parse(path):

@@ -92,6 +92,8 @@ class Lines:
 
     def __init__(self, names):
         self.names = names
+        # What the writer of the last line should know, though it is no fault.
+        self.notes = []
 
     def instruction(self, text):
         if text in FENCES:
@@ -126,6 +128,9 @@ class Lines:
         if len(parts) > 2 or "," in address or "-" in address:
             raise Fault(f"`[{spaced(address)}]` is no address: it is one operand or the sum of two, as [x + r1]; "
                         "compute the rest before it")
+        if len(parts) == 2 and all(part in self.names for part in parts):
+            raise Fault(f"`[{spaced(address)}]` adds the numbers of two locations: write one of them, or one and a "
+                        "register")
         operands = [self.operand(part) for part in parts]
         within(operands)
         return Written([LOAD, LOADS[mode], self.target(into), *operands[0], *(operands[1:] or [[0, 0]])[0]])
@@ -138,6 +143,7 @@ class Lines:
                         f"register that is free, and then {mode} [r7], {spaced(data)}")
         operand = self.operand(address)
         within([operand])
+        self.note_number(data)
         return Written([STORE, STORES[mode], 0, *operand, *self.operand(data)])
 
     def branch(self, name, left, right, skip):
@@ -157,6 +163,8 @@ class Lines:
             raise Fault(f"`{spaced(value)}` cannot be computed or loaded: write r0 = load [x], r0 = 5, or r0 = r1 + 2 "
                         "with one of + - xor ==")
         left, how, right = found.groups()
+        if not how:
+            self.note_number(left)
         operands = [*self.operand(left), *self.operand(right or "0")]
         return Written([COMPUTE, COMPUTES[how or "+"], self.target(into), *operands])
 
@@ -194,7 +202,7 @@ class Lines:
             return [0, thread(found[1], threads), register(found[2]), self.asked(found[3])]
         found = re.fullmatch(r"\[(-?\w+)\]==?(-?\w+)", text)
         if found:
-            place = self.asked(found[1])
+            place = self.constant(found[1])
             within([[0, place]])
             return [1, 0, place, self.asked(found[2])]
         raise Fault(f"`{spaced(text)}` is no condition: write 0:r1 = 2 for register 1 of thread 0, [x] = 2 for "
@@ -204,7 +212,13 @@ class Lines:
         """The value that a condition asks for."""
         if re.fullmatch("[rR][0-9]+", text):
             raise Fault(f"`{text}` is a register, and a condition asks for a number: write 0:r1 = 2")
+        self.note_number(text)
         return self.constant(text)
+
+    def note_number(self, text):
+        """A location's name where a value stands could be meant for what the location holds."""
+        if text in self.names:
+            self.notes.append(f"`{text}` stands for its number, {self.names[text]}, not for what it holds")
 
 
 def within(operands):

@@ -120,6 +120,13 @@ class Written(CommandTest):
                     "standard input:3: note: the question is empty, so it asks whether any run ends\n"),
                    ASSEMBLE, "-", given=text)
 
+    def test_a_name_where_a_value_could_be_meant_is_said(self):
+        text = "thread\n    r0 = y\n    store [x], z\n    r1 = r0 + x\nquestion\n    0:r0 = w\n    [x] = 2\n"
+        said = "".join(f"standard input:{line}: note: `{name}` stands for its number, {number}, not for what it holds\n"
+                       for line, name, number in ((2, "y", 1), (3, "z", 2), (6, "w", 3)))
+        status, _, err = self.run_command(ASSEMBLE, "-", given=text)
+        self.assertEqual((status, err), (OK, said))
+
     def test_a_refused_listing_leaves_no_old_program(self):
         old = self.file("a.bin", b"PG\x01\x01")
         self.holds((REFUSED, "", "bad.litmus:2: " + NO_QUESTION), ASSEMBLE, self.file("bad.litmus", BAD).name, "a.bin")
