@@ -46,7 +46,7 @@ class Commands(CommandTest):
         self.assertGreaterEqual(len(cases), least)
         for command, printed in cases:
             # The library is for x86-64, and so is what is linked with it.
-            if os.uname().machine != "x86_64" and re.search(r"\bcc\b|\./search", command):
+            if os.uname().machine != "x86_64" and re.search(r"\bcc\b|target/search", command):
                 continue
             with self.subTest(command):
                 status, out, err = self.run_command("bash", "-c", f"{{ {command}\n}} 2>&1")
@@ -58,7 +58,7 @@ class Commands(CommandTest):
                 self.assertEqual((out, err), (printed, ""))
 
     def test_readme(self):
-        self.prints("README.md", 12)
+        self.prints("README.md", 13)
 
     def test_readme_of_programs(self):
         self.prints("programs/README.md", 2)
