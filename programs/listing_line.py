@@ -147,11 +147,11 @@ class Lines:
         return Written([STORE, STORES[mode], 0, *operand, *self.operand(data)])
 
     def branch(self, name, left, right, skip):
-        if not skip.startswith("+") or number_of(skip[1:]) is None:
+        distance = number_of(skip[1:]) if re.match(r"\+[0-9]", skip) else None
+        if distance is None:
             raise Fault(f"`{shown(skip)}` is no distance: write +2 to skip the next 2 instructions; there are no "
                         "labels and no way back")
         operands = [*self.operand(left), *self.operand(right)]
-        distance = number_of(skip[1:])
         if name == "beq":
             return Written([BRANCH, 0, 0, *operands], skip=distance)
         # If equal, past the second branch, which always skips.
@@ -202,6 +202,8 @@ class Lines:
             return [0, thread(found[1], threads), register(found[2]), self.asked(found[3])]
         found = re.fullmatch(r"\[(-?\w+)\]==?(-?\w+)", text)
         if found:
+            if re.fullmatch("[rR][0-9]+", found[1]):
+                raise Fault(f"`{found[1]}` is a register, and a location stands in brackets: write 0:r1 = 2")
             place = self.constant(found[1])
             within([[0, place]])
             return [1, 0, place, self.asked(found[2])]

@@ -207,7 +207,35 @@ def arbitrary_listing(chance):
     return "\n".join([*threads, "question", *conditions, ""])
 
 
+WORDS = ("r0 r1 r8 R0 x y q 0 1 15 16 255 256 0xff -1 +1 + - == = xor [ ] , : load load.acq store store.rel beq bne dmb sy isb "
+         "thread question locations # / * ( \u00b2 \u0661 \u200b \0").split(" ")
+LINES = ("r0 = load [ x + r1 ]", "store [ y ] , 1", "r1 = r0 xor 3", "beq r0 , 1 , + 1", "bne r0 , 1 , + 1", "0 : r0 = 1",
+         "[ x ] = 2", "locations a b", "dmb sy")
+
+
+def arbitrary_line(chance):
+    """A good line with some of its words changed, and spaces or none between them."""
+    words = chance.choice(LINES).split(" ")
+    for _ in range(chance.randrange(4)):
+        place = chance.randrange(len(words) + 1)
+        words[place:place + chance.randrange(2)] = chance.choices(WORDS, k=chance.randrange(2))
+    return "".join(word + chance.choice(["", " ", "\t"]) for word in words)
+
+
 class Read(unittest.TestCase):
+    def test_arbitrary_lines_are_taken_or_refused_in_one_line(self):
+        chance, taken = random.Random(21), 0
+        for _ in range(20000):
+            place = chance.choice(["{}\nthread\nquestion\n", "thread\n{}\nisb\nquestion\n", "thread\nquestion\n{}\n"])
+            line = arbitrary_line(chance)
+            try:
+                listing.of_bytes(place.format(line).encode(), "a listing")
+                taken += 1
+            except listing.Refused as why:
+                self.assertRegex(str(why), r"^a listing:\d: \S")
+                self.assertTrue(str(why).isprintable(), line)
+        self.assertGreater(taken, 1000)
+
     def test_what_is_assembled_is_never_refused(self):
         chance, taken, refused = random.Random(20), 0, 0
         while taken < 400:
