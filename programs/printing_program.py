@@ -1,6 +1,7 @@
 """The proved printing program, target/bin/judge: built where it is missing or older than its sources, and run."""
 import ctypes
 import fcntl
+import functools
 import os
 import pathlib
 import re
@@ -110,12 +111,14 @@ def command():
     return [kit / "bin" / "qemu-x86_64", kit / "lib" / "ld-linux-x86-64.so.2", "--library-path", kit / "lib", PROGRAM]
 
 
-def before_start():
+def before_start(command):
     """In the new process: room on the stack, and an end together with the command, however that ends."""
     soft, hard = resource.getrlimit(resource.RLIMIT_STACK)
     if soft != resource.RLIM_INFINITY and soft < STACK:
         resource.setrlimit(resource.RLIMIT_STACK, (STACK, hard))
     ctypes.CDLL(None).prctl(1, signal.SIGKILL)
+    if os.getppid() != command:
+        os._exit(1)
 
 
 def run(program, budget):
@@ -125,7 +128,8 @@ def run(program, budget):
         raise NotDone(f"the stack is limited to {hard >> 10} KiB and {STACK >> 10} are needed: raise the limit "
                       "(ulimit -s)")
     make_current()
-    ended = subprocess.run([*command(), budget], input=program[:4096], stdout=subprocess.PIPE, preexec_fn=before_start)
+    ended = subprocess.run([*command(), budget], input=program[:4096], stdout=subprocess.PIPE,
+                           preexec_fn=functools.partial(before_start, os.getpid()))
     if ended.returncode:
         raise NotDone(f"the judge ended with {ended.returncode} and without an answer")
     return ended.stdout.decode()

@@ -149,13 +149,13 @@ class Ended(CommandTest):
             # A shell has what it starts in the background ignore interrupts.
             command = subprocess.Popen([JUDGE, "endless.litmus", "all"], cwd=self.folder, stdout=said, stderr=said,
                                        preexec_fn=lambda: signal.signal(signal.SIGINT, signal.SIG_DFL))
+        processes, children = pathlib.Path("/proc"), []
         for _ in range(600):
-            children = pathlib.Path(f"/proc/{command.pid}/task/{command.pid}/children").read_text().split()
-            if children:
+            children = children or (processes / f"{command.pid}/task/{command.pid}/children").read_text().split()
+            # A new process runs the command's program until it runs its own.
+            if children and os.readlink(processes / children[0] / "exe") != os.readlink(processes / f"{command.pid}/exe"):
                 self.addCleanup(end, int(children[0]))
-                # By then it has become the search.
-                time.sleep(0.5)
-                return command, pathlib.Path("/proc") / children[0]
+                return command, processes / children[0]
             time.sleep(0.05)
         self.fail("no search was started")
 
