@@ -21,6 +21,8 @@ CURRENT = ROOT / "target" / "judge-is-current"
 LOG = ROOT / "target" / "judge-build.log"
 # The table of known machines, 4 MiB, stands on the stack.
 STACK = 8 << 20
+# Of the C library's prctl: the signal that a process gets when the one that started it ends.
+PR_SET_PDEATHSIG = 1
 
 
 def say(text, end="\n"):
@@ -116,7 +118,7 @@ def before_start(command):
     soft, hard = resource.getrlimit(resource.RLIMIT_STACK)
     if soft != resource.RLIM_INFINITY and soft < STACK:
         resource.setrlimit(resource.RLIMIT_STACK, (STACK, hard))
-    ctypes.CDLL(None).prctl(1, signal.SIGKILL)
+    ctypes.CDLL(None).prctl(PR_SET_PDEATHSIG, signal.SIGKILL)
     if os.getppid() != command:
         os._exit(1)
 
