@@ -133,6 +133,14 @@ class NotDone(CommandTest):
                    "bash", "-c", f"ulimit -s 1024; {JUDGE} e")
 
 
+def is_search(process):
+    """Whether the process runs the printing program: it may not do so yet, or not any more."""
+    try:
+        return str(printing_program.PROGRAM).encode() in (process / "cmdline").read_bytes()
+    except OSError:
+        return False
+
+
 def end(process):
     """Nothing is left running, whatever a test comes to."""
     try:
@@ -149,24 +157,21 @@ class Ended(CommandTest):
             # A shell has what it starts in the background ignore interrupts.
             command = subprocess.Popen([JUDGE, "endless.litmus", "all"], cwd=self.folder, stdout=said, stderr=said,
                                        preexec_fn=lambda: signal.signal(signal.SIGINT, signal.SIG_DFL))
-        processes, children = pathlib.Path("/proc"), []
         for _ in range(600):
-            children = children or (processes / f"{command.pid}/task/{command.pid}/children").read_text().split()
-            # A new process runs the command's program until it runs its own.
-            if children and os.readlink(processes / children[0] / "exe") != os.readlink(processes / f"{command.pid}/exe"):
-                self.addCleanup(end, int(children[0]))
-                return command, processes / children[0]
+            for child in pathlib.Path(f"/proc/{command.pid}/task/{command.pid}/children").read_text().split():
+                if is_search(pathlib.Path("/proc") / child):
+                    self.addCleanup(end, int(child))
+                    return command, pathlib.Path("/proc") / child
             time.sleep(0.05)
         self.fail("no search was started")
 
     def ended(self, how):
         """The command's status and what it has said, after this signal; the search is gone then."""
         command, search = self.start()
-        self.assertTrue(search.exists())
         command.send_signal(how)
         status = command.wait(timeout=20)
         for _ in range(100):
-            if not search.exists():
+            if not is_search(search):
                 return status, (self.folder / "said").read_text()
             time.sleep(0.05)
         self.fail("the search goes on")
