@@ -44,7 +44,7 @@ abbrev pub advance : ℕ → Thread → Thread
 advance n s = withPosition (s .position + n) s
 
 -- ---- compute: r has the result, with the view of both operands
--- every result is a byte, so a sum or difference is one modulo 256
+-- the result is a byte: sums and differences wrap at 256
 unfoldable pub combine : ComputeMode → ℕ → ℕ → ℕ
 combine Add x y = (x + y) % 256
 combine Subtract x y = (x + 256 - y) % 256

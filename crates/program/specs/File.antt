@@ -59,7 +59,7 @@ readHeader f =
     (demand (leb 1 n && leb n 4) 4 3
     (reading 4 0 (withHeader v n noProgram))))
 
--- ---- instruction record: 49 4E, op, m, r, k1, n1, k2, n2 (6 at the first byte that is not in range); a 17th store: 7, at the op byte
+-- ---- instruction record: 49 4E, op, m, r, k1, n1, k2, n2 (6 at the first byte that is not in range, which for one that is not used is 0 alone); a 17th store: 7, at the op byte
 abbrev pub instructionOf : List ℕ → ℕ → Instruction
 instructionOf f at = record {
   op = byteAt f (at + 2);
