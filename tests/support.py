@@ -9,6 +9,10 @@ import unittest
 sys.dont_write_bytecode = True
 ROOT = pathlib.Path(__file__).resolve().parent.parent
 sys.path.insert(0, str(ROOT / "programs"))
+import printing_program
+
+# Built before all tests, so that none of them meets the progress of a build.
+printing_program.make_current()
 ASSEMBLE, JUDGE, AXIOMATIC = ROOT / "programs" / "assemble", ROOT / "judge", ROOT / "programs" / "axiomatic"
 OK, REFUSED, NOT_DONE = 0, 3, 4
 
