@@ -6,3 +6,4 @@ pub mod Kept
 pub mod Independent
 pub mod Words
 pub mod Cases
+pub mod TimeSets

@@ -81,10 +81,10 @@ ones-eqb (suc p) = ne-eqb (ones (suc p)) 0 (λ e. some (no-ones (suc p) e)) ∙ 
 
 -- ---- trailing zeros
 -- the digits of n / 2 are those of n, one further up
-half-digit : (n j : ℕ) → n / 2 / 2 ^ j % 2 ≡ n / 2 ^ suc j % 2
+pub half-digit : (n j : ℕ) → n / 2 / 2 ^ j % 2 ≡ n / 2 ^ suc j % 2
 half-digit n j = rw (div-div-eq-div-mul, ← pow-succ' 2 j)
 
-low-digit : (n : ℕ) → n / 2 ^ 0 % 2 ≡ n % 2
+pub low-digit : (n : ℕ) → n / 2 ^ 0 % 2 ≡ n % 2
 low-digit n = ap (λ (x : ℕ). x % 2) (div-one n)
 
 -- the trailing zeros of k digits count the clear digits below the lowest set one

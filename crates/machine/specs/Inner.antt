@@ -1,13 +1,14 @@
--- What the functions of the rules promise each other: the answer of a rule as the code has it, a store in parts, the first promise of a set.
+-- What the functions of the rules promise each other: the answer of a rule as the code has it, a store in parts, the first promise of a set,
+-- sets of times.
 -- Assumes nothing.
 use mathlib.Core.Path.{_≡_}
 use mathlib.Core.Bool.{Bool, true, false, _&&_}
-use Prim.Native.Nat.{ℕ, max, _+_, _<_, _≤_}
-use lib.Dec.{T, ltb}
+use Prim.Native.Nat.{ℕ, max, _+_, _%_, _^_, _<_, _≤_}
+use lib.Dec.{T, eqb, leb, ltb}
 use Rattle.theory_views.specs.Views.{viewAt}
 use Rattle.program.specs.WellFormed.{programTest}
 use Rattle.machine.specs.Below.{Program, Operand, StoreMode, Instr, Compute, Load, Store, Branch, Fence}
-use Rattle.machine.specs.State.{Memory, Thread, Machine, has, append, raiseCoherence, withForward, withViews}
+use Rattle.machine.specs.State.{Memory, Thread, Machine, messageAt, has, append, raiseCoherence, withForward, withViews}
 use Rattle.machine.specs.Rules.{Executed, refused, next, test, advance, storePre, storeViews, execute, addPromise, storeMessage}
 use Rattle.machine.specs.WellFormed.{machineTest}
 pub use Rattle.machine.specs.declared.RuleAnswer.{RuleAnswer}
@@ -52,6 +53,25 @@ pub record FirstPromise (p t : ℕ) : Type 0 where
   pub member : has p t ≡ true
   pub within : t ≤ 16
   pub before : (u : ℕ) → u < t → has p u ≡ false
+
+-- ---- sets of times
+-- a message to l stands at time t
+unfoldable pub stands : Memory → ℕ → ℕ → Bool
+stands m l t = ltb 0 t && leb t (m .count) && eqb ((messageAt m t) .location) l
+
+-- the set has the times at which a message to l stands, and no others
+abbrev pub TimesAt : Memory → ℕ → ℕ → Type 0
+TimesAt m l r = (t : ℕ) → has r t ≡ stands m l t
+
+-- the times of the set up to v
+unfoldable pub upTo : ℕ → ℕ → ℕ
+upTo p v = p % 2 ^ v
+
+-- t is the newest time of the set; 0 if it is empty
+pub record NewestTime (p t : ℕ) : Type 0 where
+  pub within : t ≤ 16
+  pub member : 0 < t → has p t ≡ true
+  pub after : (u : ℕ) → t < u → has p u ≡ false
 
 -- ---- machines
 -- program and machine are well formed: else refusal 20

@@ -5,6 +5,7 @@ pub mod merge;
 pub mod messages;
 pub mod promises;
 pub mod threads;
+pub mod times;
 
 // A message of memory: a store of `thread`.
 pub struct Message {
