@@ -10,7 +10,8 @@ use machine::Views;
 use machine::answers::done;
 use machine::answers::refused;
 use machine::merge::larger;
-use machine::merge::smaller;
+use machine::times::newest;
+use machine::times::up_to;
 use program::LoadMode;
 
 // The pre-view merges the address view and rNew, and for an acquire that is not weak Rel too.
@@ -38,20 +39,13 @@ pub fn readable(m: Memory, l: u8, t: u8) -> bool
     m.message_at(t).location == l
 }
 
-// No message to l stands after time t and up to time v: those times are looked at from the newest on.
+// No message to l stands after time t and up to time v: the newest of those up to v is not after t.
 pub fn none_newer(m: Memory, l: u8, t: u8, v: u8) -> bool
     requires { ⌜ m .count ≤ 16 ⌝ }
     ensures { λ r. ⌜ r ≡ noneNewer m l t v ⌝ }
 {
-    let w = m.messages;
-    let mut n = smaller(v, m.count);
-    while t < n {
-        if w[(n - 1) as usize].location == l {
-            return false;
-        }
-        n -= 1;
-    }
-    true
+    let seen = up_to(m.times_at(l), v);
+    newest(seen) <= t
 }
 
 // Time 0 holds value 0.

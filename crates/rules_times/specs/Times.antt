@@ -7,12 +7,8 @@ use lib.Dec.{T}
 use Rattle.program.specs.declared.Instr.{Instr}
 use Rattle.machine.specs.declared.Memory.{Memory}
 use Rattle.machine.specs.declared.Thread.{Thread}
-use Rattle.machine.specs.State.{messageAt, has}
+use Rattle.machine.specs.State.{has}
 use Rattle.machine.specs.Rules.{next, execute}
-
--- every message to l is in the set
-abbrev pub AtLocation : Memory → ℕ → ℕ → Type 0
-AtLocation m l r = (t : ℕ) → 0 < t → t ≤ m .count → (messageAt m t) .location ≡ l → T (has r t)
 
 -- every time after 0 at which the instruction can execute is in the set
 abbrev pub Later : Instr → Memory → Thread → ℕ → Type 0

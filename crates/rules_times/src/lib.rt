@@ -1,33 +1,13 @@
 // The times at which an instruction is worth a try: time 0, and the later times as a set like that of the promises.
-ghost use Prim.Native.Nat.{_≤_, _<_};
-ghost use Rattle.rules_times.specs.Times.{AtLocation, Later, AtZero, After};
+ghost use Prim.Native.Nat.{_≤_};
+ghost use Rattle.rules_times.specs.Times.{Later, AtZero, After};
 use machine::Memory;
 use machine::Thread;
 use machine::promises::first;
 use machine::promises::is_empty;
-use machine::promises::with;
 use program::Instr;
 use rules::operands::address_of_sum;
 use rules::operands::value_of;
-
-// The times of the messages to l.
-fn at_location(m: Memory, l: u8) -> u16
-    requires { ⌜ m .count ≤ 16 ⌝ }
-    ensures { λ r. ⌜ AtLocation m l r ⌝ }
-{
-    let count = m.count;
-    let messages = m.messages;
-    let mut r = 0u16;
-    let mut t = 0u8;
-    while t < count {
-        let w = messages[t as usize];
-        if w.location == l {
-            r = with(r, t + 1);
-        }
-        t += 1;
-    }
-    r
-}
 
 // A load reads a message to its location; a store fulfils a promise; nothing else executes after time 0.
 pub fn later_times(x: Instr, m: Memory, s: Thread) -> u16
@@ -37,7 +17,7 @@ pub fn later_times(x: Instr, m: Memory, s: Thread) -> u16
     match x {
         Instr::Load(_, _, a, b) => {
             let l = address_of_sum(value_of(s, a), value_of(s, b));
-            at_location(m, l)
+            m.times_at(l)
         }
         Instr::Store(_, _, _) => s.promises,
         Instr::Compute(_, _, _, _) => 0,

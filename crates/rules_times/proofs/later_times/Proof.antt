@@ -9,7 +9,7 @@ use Rattle.rules_times.proofs.later_times.Statement.{statement}
 use Rattle.rules_times.proofs.later_times.Tie as tie
 
 returns : tie.Need-returns
-returns c = rw (c .before .before .before .before .before .x .given .1) (load-later _ _ _ _ _ _ _ _ (c .before .address-of-sum .ensures .0 ∙ ap₂ (λ (v w : ℕ). address (v + w)) (c .before .before .before .value-of .ensures) (c .before .before .value-of2 .ensures)) (c .at-location .ensures))
+returns c = rw (c .before .before .before .before .before .x .given .1) (load-later _ _ _ _ _ _ _ _ (c .before .address-of-sum .ensures .0 ∙ ap₂ (λ (v w : ℕ). address (v + w)) (c .before .before .before .value-of .ensures) (c .before .before .value-of2 .ensures)) (c .times-at .ensures))
 
 pub later-times-spec : {M : Type 1} → statement M
 later-times-spec =
