@@ -1,7 +1,7 @@
 -- The test that no message is newer: of the messages to l up to v the newest is looked at.
 -- Assumes nothing.
 use mathlib.Core.Path.{_≡_, sym, ap, subst, _∙_}
-use mathlib.Core.Bool.{Bool, _&&_}
+use mathlib.Core.Bool.{Bool, true, _&&_}
 use Prim.Native.Nat.{ℕ, zero, suc, _≤_, _<_}
 use native.Mathlib.Decide.{decLe}
 use native.Mathlib.Omega.{arith}
@@ -38,6 +38,18 @@ module _ (m : Memory) (l t v : ℕ) where
   unfolding noneNewer
   no-newer n zero h k = absurd (omega arith)
   no-newer n (suc u) h k = T-not (newer m l t v (suc u)) (below-at _ (m .count) n u (omega arith))
+
+  -- there is no time after t and up to v
+  pub none-between : v ≤ t → true ≡ noneNewer m l t v
+  unfolding noneNewer
+  none-between h =
+      sym (is-true (noneNewer m l t v)
+      (below-all _ (m .count) (λ k q. not-T (newer m l t v (suc k)) (λ w.
+      let a : T (ltb t (suc k)) = search (and-left, and-right) in
+      let b : T (leb (suc k) v) = search (and-left, and-right) in
+      let c = ltb→lt t (suc k) a in
+      let d = leb→le (suc k) v b in
+      omega arith))))
 
   module _ (set n : ℕ) (at : TimesAt m l set) (o : NewestTime (upTo set v) n) where
     seen : (u : ℕ) → has (upTo set v) u ≡ (stands m l u && leb u v)

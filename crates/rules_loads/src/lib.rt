@@ -39,11 +39,15 @@ pub fn readable(m: Memory, l: u8, t: u8) -> bool
     m.message_at(t).location == l
 }
 
-// No message to l stands after time t and up to time v: the newest of those up to v is not after t.
+// No message to l stands after time t and up to time v: the newest of those up to v is not after t. Mostly v is not after t, and the set is
+// not asked for.
 pub fn none_newer(m: Memory, l: u8, t: u8, v: u8) -> bool
     requires { ⌜ m .count ≤ 16 ⌝ }
     ensures { λ r. ⌜ r ≡ noneNewer m l t v ⌝ }
 {
+    if v <= t {
+        return true;
+    }
     let seen = up_to(m.times_at(l), v);
     newest(seen) <= t
 }
