@@ -63,6 +63,11 @@ noted-at counted t v u tried e = elim (decLt t (length counted)) [
   | no l ↦ absurd (tried (List·getD-eq-default (set counted t v) 3 {n = u} (let z = length-set counted t v in omega arith)))
 ]
 
+-- the thread that goes on is where y is, with the same promises
+pub resumed-same : (apart : Bool) (y z s : Thread) → (apart ≡ true → z ≡ cohering y (s .coherence)) × (apart ≡ false → z ≡ y) → (z .position ≡ y .position) × (z .promises ≡ y .promises)
+resumed-same true y z s is = (ap (λ (v : Thread). v .position) (is .0 refl), ap (λ (v : Thread). v .promises) (is .0 refl))
+resumed-same false y z s is = (ap (λ (v : Thread). v .position) (is .1 refl), ap (λ (v : Thread). v .promises) (is .1 refl))
+
 module _ (c : Code) (i : ℕ) (m : Memory) (s : Thread) (x : Instr) (q : Sought) where
   -- no time was tried yet
   pub knows-none : plainly x s ≡ none → (known : Reached) (p : Tried) → p ≡ record { met = known .met; tries = 0; cares = known .cares; counted = replicate 17 3; apart = true } → Knows c i m s x q p
@@ -239,7 +244,7 @@ module _ (c : Code) (i : ℕ) (m : Memory) (s : Thread) (x : Instr) (q : Sought)
           store s' v o = subst (λ (w : Instr). execute w m t s' ≡ next v) is o
 
     -- it goes on as it is
-    pub went-on : (y : Thread) → execute x m t s ≡ next y → (sub : Reached) → Found (q .from) (p .met) (λ v k. Meets c i m v (q .hole) k) y sub → (r : Tried) → Noted x t p sub false r → Went c i m s x q p t r
+    went-on : (y : Thread) → execute x m t s ≡ next y → (sub : Reached) → Found (q .from) (p .met) (λ v k. Meets c i m v (q .hole) k) y sub → (r : Tried) → Noted x t p sub false r → Went c i m s x q p t r
     unfolding plainly
     went-on y does sub found r n = go x refl
       where
@@ -251,10 +256,16 @@ module _ (c : Code) (i : ℕ) (m : Memory) (s : Thread) (x : Instr) (q : Sought)
         go (Fence how) e = absurd (no-thread-left (sym (ap (λ (v : Instr). plainly v s) e) ∙ known .halting))
 
     -- it is idle, and goes on with the coherence views of before
-    pub went-apart : (y : Thread) → execute x m t s ≡ next y → Idles x m s t y (q .hole) → (z : Thread) → z ≡ cohering y (s .coherence) → (sub : Reached) → Found (q .from) (p .met) (λ v k. Meets c i m v (q .hole) k) z sub
+    went-apart : (y : Thread) → execute x m t s ≡ next y → Idles x m s t y (q .hole) → (z : Thread) → z ≡ cohering y (s .coherence) → (sub : Reached) → Found (q .from) (p .met) (λ v k. Meets c i m v (q .hole) k) z sub
         → (r : Tried) → Noted x t p sub true r → Went c i m s x q p t r
     went-apart y does o z e sub found r n =
         went-idle y does z lifts sub found true (o .mode) (o .register) (o .a) (o .b) (o .is-load) r n e (o .at-zero) (o .vacant) (o .unseen)
       where
         lifts : (k : ℕ) → Meets c i m z (q .hole) k → Meets c i m y (q .hole) k
         lifts k w = idle-lifts c i (q .hole) k x m s t y does o (subst (λ (v : Thread). Meets c i m v (q .hole) k) e w)
+
+    -- it goes on in one of the two ways
+    pub went-resumed : (y : Thread) → execute x m t s ≡ next y → (apart : Bool) → (apart ≡ true → Idles x m s t y (q .hole)) → (z : Thread) → (apart ≡ true → z ≡ cohering y (s .coherence)) × (apart ≡ false → z ≡ y)
+        → (sub : Reached) → Found (q .from) (p .met) (λ v k. Meets c i m v (q .hole) k) z sub → (r : Tried) → Noted x t p sub apart r → Went c i m s x q p t r
+    went-resumed y does true idles z is sub found r n = went-apart y does (idles refl) z (is .0 refl) sub found r n
+    went-resumed y does false idles z is sub found r n = went-on y does sub (subst (λ (v : Thread). Found (q .from) (p .met) (λ o k. Meets c i m o (q .hole) k) v sub) (is .1 refl) found) r n

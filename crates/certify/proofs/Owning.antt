@@ -2,7 +2,7 @@
 -- Assumes nothing.
 use mathlib.Core.Path.{_≡_, refl, sym, ap, ap₂, subst, _∙_}
 use mathlib.Core.Logic.{_⊎_, ⊎-elim}
-use mathlib.Core.Bool.{Bool, true, not}
+use mathlib.Core.Bool.{Bool, true, false, not}
 use mathlib.Core.List.{List}
 use mathlib.Core.Option.{none, Option·some-injective}
 use Prim.Native.Nat.{ℕ, _+_, _*_, _^_, _≤_, _<_}
@@ -120,7 +120,7 @@ module _ (c : Code) (i : ℕ) (m : Memory) (s : Thread) (x : Instr) (q : Sought)
           store-rests m' how a d (addPromise m' s) (addPromise m' s') (promise-rests m' rests .under) (promised-place s' rests) K all (m' .count) (append m (o .message)) (u .thread) (o .after) (ruled-done s (ownStore how a d m i s) u e z) (its-store s' j o)
 
       -- where no load stands ahead, the data do not count
-      pub owns-apart : Loadless c (s .position) → s .promises < 2 ^ m .count → (m₁ : Memory) → m₁ ≡ append m (storeMessage i a d s) → u .answer ≡ Done
+      owns-apart : Loadless c (s .position) → s .promises < 2 ^ m .count → (m₁ : Memory) → m₁ ≡ append m (storeMessage i a d s) → u .answer ≡ Done
           → (then : Reached) → Found (q .from) (q .met) (λ y j. Meets c i m₁ y (q .hole) j) (u .thread) then → (k' : Cares) → Covers (k' .of) (then .cares .of) → Covers (k' .of) (placed .of)
           → Found (q .from) (q .met) (λ y j. Owns c i m y x (q .hole) j) s (record { met = then .met; cares = k' })
       unfolding w m'
@@ -167,7 +167,7 @@ module _ (c : Code) (i : ℕ) (m : Memory) (s : Thread) (x : Instr) (q : Sought)
             let mine = store-too m' how a d (addPromise m' s) (addPromise m' s') (promise-rests m' rests .under) (promised-place s' rests) (m' .count) (o .after) (promised-data s' rests) its in
             other (sym (ruled-refused s (ownStore how a d m i s) u n e z) ∙ mine .1))
 
-        pub owns-goes : (m₁ : Memory) → m₁ ≡ append m (storeMessage i a d s) → u .answer ≡ Done → (then : Reached) → Found (q .from) (q .met) (λ y j. Meets c i m₁ y (q .hole) j) (u .thread) then
+        owns-goes : (m₁ : Memory) → m₁ ≡ append m (storeMessage i a d s) → u .answer ≡ Done → (then : Reached) → Found (q .from) (q .met) (λ y j. Meets c i m₁ y (q .hole) j) (u .thread) then
             → (k' : Cares) → Covers (k' .of) (then .cares .of) → Covers (k' .of) (placed .of)
             → Found (q .from) (q .met) (λ y j. Owns c i m y x (q .hole) j) s (record { met = then .met; cares = k' })
         unfolding w m'
@@ -179,3 +179,11 @@ module _ (c : Code) (i : ℕ) (m : Memory) (s : Thread) (x : Instr) (q : Sought)
                   found .barren (o .after) (own-after s' settles z (then .cares .of) (rests-less more rests .agreeing) j o) j l
                   (subst (λ (y : Memory). Meets c i y (o .after) (q .hole) j) (ap (append m) (own-same s' settles j o) ∙ sym me) (o .goes-on));
             }
+
+      -- it rests on its data only if a load may read the message
+      pub owns-on : (read : Bool) → (read ≡ true → (v v' : Thread) → Agreeing (placed .of) v v' → Agrees 2 (valueOf v d) (valueOf v' d)) → (read ≡ false → Loadless c (s .position))
+          → s .promises < 2 ^ m .count → (m₁ : Memory) → m₁ ≡ append m (storeMessage i a d s) → u .answer ≡ Done
+          → (then : Reached) → Found (q .from) (q .met) (λ y j. Meets c i m₁ y (q .hole) j) (u .thread) then → (k' : Cares) → Covers (k' .of) (then .cares .of) → Covers (k' .of) (placed .of)
+          → Found (q .from) (q .met) (λ y j. Owns c i m y x (q .hole) j) s (record { met = then .met; cares = k' })
+      owns-on true noted loadless within = owns-goes (noted refl)
+      owns-on false noted loadless within = owns-apart (loadless refl) within

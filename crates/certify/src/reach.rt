@@ -1,10 +1,10 @@
 // What the runs of a thread alone come to: one search of them, times ascending, for all that asks; and what a failure rests on.
 ghost use mathlib.Core.Path.{_≡_};
 ghost use mathlib.Core.Bool.{true, false};
-ghost use Prim.Native.Nat.{_≤_};
+ghost use Prim.Native.Nat.{ℕ, _≤_, _<_};
 ghost use Rattle.certify_runs.specs.Inner.{Ready, Trying};
 ghost use Rattle.certify_cares.specs.Cares.{Covers};
-ghost use Rattle.certify_straight.specs.Straight.{Forked, Walked};
+ghost use Rattle.certify_straight.specs.Straight.{Halts, Forked, Walked};
 ghost use Rattle.certify_sought.specs.Asks.{Stores};
 ghost use Rattle.certify_sought.specs.Aim.{Meets};
 ghost use Rattle.certify_sought.specs.Numbers.{Twice};
@@ -13,12 +13,12 @@ ghost use Rattle.certify.specs.Search.{Owns, Found, Unkept, Filled, Keep
 use crate::own_message;
 use certify_ahead::loads_ahead;
 use certify_cares::Cares;
-use certify_cares::barring;
 use certify_lost::fruitless;
 use certify_lost::wanted::number_of;
 use certify_sought::Met;
 use certify_sought::Sought;
 use certify_sought::asks::asks;
+use certify_sought::asks::own_asks;
 use certify_sought::goal::emptied;
 use certify_sought::goal::fill;
 use certify_sought::goal::kept;
@@ -32,7 +32,6 @@ use certify_tried::Tried;
 use certify_tried::appends;
 use certify_tried::blind::Blind;
 use certify_tried::blind::told;
-use certify_tried::blind::unknown;
 use certify_tried::blind::unread;
 use certify_tried::blind::worth_a_look;
 use certify_tried::blind::worth_asking;
@@ -42,7 +41,7 @@ use certify_tried::untried;
 use certify_window::earliest;
 use certify_window::following;
 use certify_window::idle::idle;
-use certify_window::idle::lowered;
+use certify_window::idle::resumed;
 use machine::Memory;
 use machine::RuleAnswer;
 use machine::Thread;
@@ -62,28 +61,36 @@ pub fn two_reached(c: Code, i: u8, m: Memory, s: Thread, q: Sought) -> Met
     search_runs(c, i, m, s, q).met
 }
 
-// The same, and what it rests on that there is no other. With many messages about, branches are looked at both ways.
+// The same, and what it rests on that there is no other.
 pub fn search_runs(c: Code, i: u8, m: Memory, s: Thread, q: Sought) -> Reached
     requires { ⌜ Ready c m s ⌝ }
     ensures { λ r. ⌜ Found (q .from) (q .met) (λ y k. Meets c i m y (q .hole) k) s r ⌝ }
 {
-    let nothing = Cares { of: [0; 8] };
     if kept(s, q) {
         return Reached {
             met: emptied(q),
-            cares: nothing,
+            cares: Cares { of: [0; 8] },
         };
     }
     if c.count <= s.position {
         let met = q.met;
         return Reached {
             met: met,
-            cares: nothing,
+            cares: Cares { of: [0; 8] },
         };
     }
     if halts(c, s.position) {
         return search_at(c, i, m, s, c.instr_at(s.position), q);
     }
+    walk_on(c, i, m, s, q)
+}
+
+// The same for a thread at an instruction that has one way to go on. With many messages about, branches are looked at both ways. It is a
+// function of its own so that the walk shares its place on the stack with the tries of loads and stores.
+fn walk_on(c: Code, i: u8, m: Memory, s: Thread, q: Sought) -> Reached
+    requires { ⌜ Ready c m s × ((s .position < c .count) × (Halts c s → ⊥)) ⌝ }
+    ensures { λ r. ⌜ Found (q .from) (q .met) (λ y k. Meets c i m y (q .hole) k) s r ⌝ }
+{
     let w = straight(c, s, 12 <= m.count);
     if w.other != 0 {
         return both_ways(c, i, m, s, w, q);
@@ -100,34 +107,21 @@ pub fn search_runs(c: Code, i: u8, m: Memory, s: Thread, q: Sought) -> Reached
     }
 }
 
-// Whether it is known beforehand that nothing comes of x: what is wanted is lost, or x is a load that fails whatever it reads.
-fn blind(c: Code, i: u8, m: Memory, s: Thread, x: Instr, q: Sought) -> Blind
-    requires { ⌜ Trying c m s x × Unkept s x q ⌝ }
-    ensures { λ r. ⌜ (r .fails ≡ true → Found (q .from) (q .met) (λ y k. Meets c i m y (q .hole) k) s (r .found)) ⌝ }
+// Whether it is known beforehand that nothing comes of the next instruction, since what is wanted is lost. It is worked out before any run is
+// searched, so that nothing of it stays on the stack.
+fn foreseen(c: Code, m: Memory, s: Thread, q: Sought) -> Blind
+    requires { ⌜ (c .count ≤ 16) × (m .count ≤ 16) ⌝ }
+    ensures { λ r. ⌜ (r .fails ≡ true → (i : ℕ) → Found (q .from) (q .met) (λ y k. Meets c i m y (q .hole) k) s (r .found)) ⌝ }
 {
     let met = q.met;
     let gone = fruitless(c, m, s, q.hole, q.from, q.met.second);
-    if gone.certain {
-        let rests = gone.cares;
-        return Blind {
-            fails: true,
-            found: Reached {
-                met: met,
-                cares: rests,
-            },
-        };
-    }
-    if !worth_asking(x, c, s) {
-        return unknown(met);
-    }
-    match x {
-        Instr::Load(k, r, a, b) => {
-            told(r, search_runs(c, i, m, unread(k, r, a, b, m, s), q), met)
-        }
-        Instr::Store(_, _, _) => unknown(met),
-        Instr::Compute(_, _, _, _) => unknown(met),
-        Instr::Branch(_, _, _) => unknown(met),
-        Instr::Fence(_) => unknown(met),
+    let rests = gone.cares;
+    Blind {
+        fails: gone.certain,
+        found: Reached {
+            met: met,
+            cares: rests,
+        },
     }
 }
 
@@ -165,15 +159,25 @@ fn both_ways(c: Code, i: u8, m: Memory, s: Thread, w: Walk, q: Sought) -> Reache
 }
 
 // The same for a thread at its next load or store, x: times ascending, then the store's own message. What the tries themselves rest on is
-// worked out last: most searches that succeed never ask for it. With many messages about, it is asked first whether anything can come of it.
+// worked out last: most searches that succeed never ask for it. With many messages about, it is asked first whether anything can come of it: what
+// is wanted may be lost, or a load fail whatever it reads.
 fn search_at(c: Code, i: u8, m: Memory, s: Thread, x: Instr, q: Sought) -> Reached
     requires { ⌜ Trying c m s x × Unkept s x q ⌝ }
     ensures { λ r. ⌜ Found (q .from) (q .met) (λ y k. Meets c i m y (q .hole) k) s r ⌝ }
 {
     if worth_a_look(x, c, m, s) {
-        let b = blind(c, i, m, s, x, q);
-        if b.fails {
-            return b.found;
+        let f = foreseen(c, m, s, q);
+        if f.fails {
+            return f.found;
+        }
+        if worth_asking(x, c, s) {
+            let load = x;
+            if let Instr::Load(k, r, a, b) = load {
+                let o = told(r, search_runs(c, i, m, unread(k, r, a, b, m, s), q), q.met);
+                if o.fails {
+                    return o.found;
+                }
+            }
         }
     }
     let mut t = earliest(x, m, s);
@@ -295,11 +299,9 @@ fn try_at(c: Code, i: u8, m: Memory, s: Thread, x: Instr, t: u8, p: Tried, q: So
             apart: p.apart,
         };
     }
-    if idle(x, m, s, t, r.thread, q.hole) {
-        let y = lowered(r.thread, s);
-        return noted(x, t, p, search_runs(c, i, m, y, less), true);
-    }
-    noted(x, t, p, search_runs(c, i, m, r.thread, less), false)
+    let apart = idle(x, m, s, t, r.thread, q.hole);
+    let y = resumed(apart, r.thread, s);
+    noted(x, t, p, search_runs(c, i, m, y, less), apart)
 }
 
 // A store that was not promised before appends a message and fulfils that, and the thread goes on from there. Where no load is left to read the message, its
@@ -324,29 +326,22 @@ fn own_reached(
     }
     match x {
         Instr::Store(how, a, d) => {
-            let placed = k.noting(a, barring(65535));
-            let settled = placed.noting(d, 2);
             let r = own_store(how, a, d, m, i, s);
             let answer = r.answer;
             let RuleAnswer::Done = answer else {
                 return Reached {
                     met: met,
-                    cares: settled,
+                    cares: own_asks(k, a, d, true),
                 };
             };
             let w = own_message(i, a, d, s);
             let then = search_runs(c, i, m.append(w), r.thread, q);
             let known = then.met;
             let rests = then.cares;
-            if loads_ahead(c, s.position) {
-                return Reached {
-                    met: known,
-                    cares: rests.and(settled),
-                };
-            }
+            let read = loads_ahead(c, s.position);
             Reached {
                 met: known,
-                cares: rests.and(placed),
+                cares: rests.and(own_asks(k, a, d, read)),
             }
         }
         Instr::Load(_, _, _, _) => none,

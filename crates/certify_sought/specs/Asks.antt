@@ -57,6 +57,12 @@ pub record Asks (x : Instr) (m : Memory) (s : Thread) (q : Sought) (apart : Bool
   pub load : (k : LoadMode) (r : ℕ) (a b : Operand) → x ≡ Load k r a b → (s' : Thread) → Agreeing cares s s' → LoadsSame apart m s s' a b
   pub store : (k : StoreMode) (a d : Operand) → x ≡ Store k a d → StoreAsks m s a d q cares
 
+-- what a store with a message of its own rests on, besides k: its location, and, if the message may be read, its data
+pub record OwnAsks (k : List ℕ) (a d : Operand) (read : Bool) (cares : List ℕ) : Type 0 where
+  pub besides : (s s' : Thread) → Agreeing cares s s' → Agreeing k s s'
+  pub place : (s s' : Thread) → Agreeing cares s s' → Agrees (65536 * 65535) (valueOf s a) (valueOf s' a)
+  pub value : read ≡ true → (s s' : Thread) → Agreeing cares s s' → Agrees 2 (valueOf s d) (valueOf s' d)
+
 -- the other thread loads from the same location, or from one that tries apart tell of too; or stores to it, and the same value if it fulfils a promise
 pub record Likewise (apart : Bool) (x : Instr) (m : Memory) (s s' : Thread) : Type 0 where
   pub load : (k : LoadMode) (r : ℕ) (a b : Operand) → x ≡ Load k r a b → LoadsSame apart m s s' a b

@@ -1,7 +1,7 @@
 // What the tries of a load or store rest on, whatever comes after them.
 ghost use Prim.Native.Nat.{_≤_, _<_};
 ghost use Rattle.certify_cares.specs.Cares.{Agreeing};
-ghost use Rattle.certify_sought.specs.Asks.{OtherValues, Unsought, LoadsSame, StoreAsks, Asks};
+ghost use Rattle.certify_sought.specs.Asks.{OtherValues, Unsought, LoadsSame, StoreAsks, Asks, OwnAsks};
 use crate::Sought;
 use crate::places::place;
 use crate::places::vacancy;
@@ -112,4 +112,15 @@ pub fn asks(x: Instr, m: Memory, s: Thread, q: Sought, own: bool, apart: bool) -
         Instr::Branch(_, _, _) => nothing,
         Instr::Fence(_) => nothing,
     }
+}
+
+// What a store with a message of its own rests on, besides k: its location, and its data if a load may read the message.
+pub fn own_asks(k: Cares, a: Operand, d: Operand, read: bool) -> Cares
+    ensures { λ r. ⌜ OwnAsks (k .of) a d read (r .of) ⌝ }
+{
+    let placed = k.noting(a, barring(65535));
+    if read {
+        return placed.noting(d, 2);
+    }
+    placed
 }

@@ -1,6 +1,6 @@
 // Loads of locations without a message: they read 0 at time 0, and which of them it is counts for little.
 ghost use mathlib.Core.Path.{_≡_};
-ghost use mathlib.Core.Bool.{true};
+ghost use mathlib.Core.Bool.{true, false};
 ghost use Prim.Native.Nat.{_≤_};
 ghost use Rattle.certify_under.specs.Threads.{cohering};
 ghost use Rattle.certify_window.specs.Idle.{Idles};
@@ -50,4 +50,11 @@ pub fn lowered(mut y: Thread, s: Thread) -> Thread
     let coherence = s.coherence;
     y.coherence = coherence;
     y
+}
+
+// The thread to go on from: y, or, if it is idle, y with the coherence views of s.
+pub fn resumed(apart: bool, y: Thread, s: Thread) -> Thread
+    ensures { λ r. ⌜ (apart ≡ true → r ≡ cohering y (s .coherence)) × (apart ≡ false → r ≡ y) ⌝ }
+{
+    if apart { lowered(y, s) } else { y }
 }

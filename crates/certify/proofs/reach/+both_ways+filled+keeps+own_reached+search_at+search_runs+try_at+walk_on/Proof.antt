@@ -24,44 +24,40 @@ use Rattle.certify_straight.proofs.Plain.{leads-ready, walked-leads, walked-fur
 use Rattle.certify_sought.proofs.Numbers.{better-on}
 use Rattle.certify.proofs.Finding.{covers-self, covers-on}
 use Rattle.certify.proofs.Filling.{fill-no-hole, fill-none, fill-unsought, fill-here, fill-fails, alone-kept, alone-lost, hole-time, trying-filled, keeps-refused, keeps-done}
-use Rattle.certify.proofs.Missing.{knows-none, missed-none, missed-on, went-refused, went-hopeless, went-found, went-on, went-apart}
-use Rattle.certify.proofs.Owning.{owns-none, owns-untried, owns-apart, owns-stuck, owns-goes}
-use Rattle.certify.proofs.Losing.{fruitless-found}
+use Rattle.certify.proofs.Missing.{knows-none, missed-none, missed-on, went-refused, went-hopeless, went-found, went-resumed, resumed-same}
+use Rattle.certify.proofs.Owning.{owns-none, owns-untried, owns-stuck, owns-on}
 use Rattle.certify.proofs.Blind.{blind-found}
 use Rattle.certify.proofs.Forking.{fork-this, fork-other, both-found}
 use Rattle.certify.proofs.Reaching.{reach-end, reach-ended, fills-meets, tried-meets, owns-meets, reach-all, straight-kept, straight-ended, straight-found, further-by, further-own}
 use Prim.Native.Nat.{ℕ, _<_}
 use borrow.Fn.Kinds.{In}
 use borrow.Fn.PlainCycle.{Measures, is, falls, and}
-use Rattle.certify.proofs.reach.blind.Reads as blind
-use Rattle.certify.proofs.reach.blind.Kinds as blind-kinds
-use Rattle.certify.proofs.reach.+blind+both_ways+filled+keeps+own_reached+search_at+search_runs+try_at.Lts-blind as blind-lts
 use Rattle.certify.proofs.reach.both_ways.Reads as both-ways
 use Rattle.certify.proofs.reach.both_ways.Kinds as both-ways-kinds
-use Rattle.certify.proofs.reach.+blind+both_ways+filled+keeps+own_reached+search_at+search_runs+try_at.Lts-both_ways as both-ways-lts
+use Rattle.certify.proofs.reach.+both_ways+filled+keeps+own_reached+search_at+search_runs+try_at+walk_on.Lts-both_ways as both-ways-lts
 use Rattle.certify.proofs.reach.filled.Reads as filled
 use Rattle.certify.proofs.reach.filled.Kinds as filled-kinds
-use Rattle.certify.proofs.reach.+blind+both_ways+filled+keeps+own_reached+search_at+search_runs+try_at.Lts-filled as filled-lts
+use Rattle.certify.proofs.reach.+both_ways+filled+keeps+own_reached+search_at+search_runs+try_at+walk_on.Lts-filled as filled-lts
 use Rattle.certify.proofs.reach.keeps.Reads as keeps
 use Rattle.certify.proofs.reach.keeps.Kinds as keeps-kinds
-use Rattle.certify.proofs.reach.+blind+both_ways+filled+keeps+own_reached+search_at+search_runs+try_at.Lts-keeps as keeps-lts
+use Rattle.certify.proofs.reach.+both_ways+filled+keeps+own_reached+search_at+search_runs+try_at+walk_on.Lts-keeps as keeps-lts
 use Rattle.certify.proofs.reach.own_reached.Reads as own-reached
 use Rattle.certify.proofs.reach.own_reached.Kinds as own-reached-kinds
-use Rattle.certify.proofs.reach.+blind+both_ways+filled+keeps+own_reached+search_at+search_runs+try_at.Lts-own_reached as own-reached-lts
+use Rattle.certify.proofs.reach.+both_ways+filled+keeps+own_reached+search_at+search_runs+try_at+walk_on.Lts-own_reached as own-reached-lts
 use Rattle.certify.proofs.reach.search_at.Reads as search-at
 use Rattle.certify.proofs.reach.search_at.Kinds as search-at-kinds
-use Rattle.certify.proofs.reach.+blind+both_ways+filled+keeps+own_reached+search_at+search_runs+try_at.Lts-search_at as search-at-lts
+use Rattle.certify.proofs.reach.+both_ways+filled+keeps+own_reached+search_at+search_runs+try_at+walk_on.Lts-search_at as search-at-lts
 use Rattle.certify.proofs.reach.search_runs.Reads as search-runs
 use Rattle.certify.proofs.reach.search_runs.Kinds as search-runs-kinds
-use Rattle.certify.proofs.reach.+blind+both_ways+filled+keeps+own_reached+search_at+search_runs+try_at.Lts-search_runs as search-runs-lts
+use Rattle.certify.proofs.reach.+both_ways+filled+keeps+own_reached+search_at+search_runs+try_at+walk_on.Lts-search_runs as search-runs-lts
 use Rattle.certify.proofs.reach.try_at.Reads as try-at
 use Rattle.certify.proofs.reach.try_at.Kinds as try-at-kinds
-use Rattle.certify.proofs.reach.+blind+both_ways+filled+keeps+own_reached+search_at+search_runs+try_at.Lts-try_at as try-at-lts
+use Rattle.certify.proofs.reach.+both_ways+filled+keeps+own_reached+search_at+search_runs+try_at+walk_on.Lts-try_at as try-at-lts
+use Rattle.certify.proofs.reach.walk_on.Reads as walk-on
+use Rattle.certify.proofs.reach.walk_on.Kinds as walk-on-kinds
+use Rattle.certify.proofs.reach.+both_ways+filled+keeps+own_reached+search_at+search_runs+try_at+walk_on.Lts-walk_on as walk-on-lts
 use Rattle.certify_cares.proofs.Cares.and.Reads as and-reads
-use Rattle.certify_cares.proofs.Cares.forgetting.Reads as forgetting-reads
-use Rattle.certify_cares.proofs.Cares.noting.Reads as noting-reads
 use Rattle.certify_cares.proofs.Cares.of_register.Reads as of-register-reads
-use Rattle.certify_cares.proofs.barring.Reads as barring-reads
 use Rattle.certify_sought.proofs.Met.ended.Reads as ended-reads
 use Rattle.certify_sought.proofs.Met.is.Reads as is-reads
 use Rattle.certify_sought.proofs.Met.with.Reads as with-reads
@@ -69,13 +65,13 @@ use Rattle.certify_sought.proofs.Sought.after.Reads as after-reads
 use Rattle.certify_sought.proofs.Sought.certified.Reads as certified-reads
 use Rattle.certify_sought.proofs.Sought.seeks.Reads as seeks-reads
 use Rattle.certify_sought.proofs.asks.asks.Reads as asks-reads
+use Rattle.certify_sought.proofs.asks.own_asks.Reads as own-asks-reads
 use Rattle.certify_tried.proofs.blind.told.Reads as told-reads
-use Rattle.certify_tried.proofs.blind.unknown.Reads as unknown-reads
 use Rattle.certify_tried.proofs.blind.unread.Reads as unread-reads
 use Rattle.certify_tried.proofs.blind.worth_a_look.Reads as worth-a-look-reads
 use Rattle.certify_tried.proofs.blind.worth_asking.Reads as worth-asking-reads
 use Rattle.certify_window.proofs.idle.idle.Reads as idle-reads
-use Rattle.certify_window.proofs.idle.lowered.Reads as lowered-reads
+use Rattle.certify_window.proofs.idle.resumed.Reads as resumed-reads
 use Rattle.certify.proofs.own_message.Reads as own-message-reads
 use Rattle.certify_tried.proofs.appends.Reads as appends-reads
 use Rattle.certify_straight.proofs.at_position.Reads as at-position-reads
@@ -92,7 +88,7 @@ use Rattle.certify_straight.proofs.straight.Reads as straight-reads
 use Rattle.certify_window.proofs.earliest.Reads as earliest-reads
 use Rattle.certify_window.proofs.following.Reads as following-reads
 use Rattle.certify_ahead.proofs.loads_ahead.Reads as loads-ahead-reads
-use Rattle.certify_lost.proofs.fruitless.Reads as fruitless-reads
+use Rattle.certify.proofs.reach.foreseen.Reads as foreseen-reads
 use Rattle.certify_lost.proofs.wanted.number_of.Reads as number-of-reads
 use Rattle.machine.proofs.Memory.append.Reads as append-reads
 use Rattle.machine.proofs.promises.has.Reads as has-reads
@@ -101,15 +97,12 @@ use Rattle.rules.proofs.operands.view_of.Reads as view-of-reads
 use Rattle.rules.proofs.own_store.Reads as own-store-reads
 use Rattle.program.proofs.Code.instr_at.Reads as instr-at-reads
 use Rattle.rules_stores.proofs.below_time.Reads as below-time-reads
-use Rattle.certify.proofs.reach.+blind+both_ways+filled+keeps+own_reached+search_at+search_runs+try_at.{
+use Rattle.certify.proofs.reach.+both_ways+filled+keeps+own_reached+search_at+search_runs+try_at+walk_on.{
   statement,
 }
-use Rattle.certify.proofs.reach.+blind+both_ways+filled+keeps+own_reached+search_at+search_runs+try_at.Tie.{
+use Rattle.certify.proofs.reach.+both_ways+filled+keeps+own_reached+search_at+search_runs+try_at+walk_on.Tie.{
   close,
 }
-
-abbrev μ-blind : Measures 0 blind-kinds.ps ℕ
-μ-blind κs a = 5 * (20 - a .1 .1 .1 .0 .position) + 2
 
 abbrev μ-both-ways : Measures 0 both-ways-kinds.ps ℕ
 μ-both-ways κs a = 5 * (20 - a .1 .1 .1 .0 .position) + 3
@@ -127,16 +120,13 @@ abbrev μ-search-at : Measures 0 search-at-kinds.ps ℕ
 μ-search-at κs a = 5 * (20 - a .1 .1 .1 .0 .position) + 3
 
 abbrev μ-search-runs : Measures 0 search-runs-kinds.ps ℕ
-μ-search-runs κs a = 5 * (20 - a .1 .1 .1 .0 .position) + 4
+μ-search-runs κs a = 5 * (20 - a .1 .1 .1 .0 .position) + 5
 
 abbrev μ-try-at : Measures 0 try-at-kinds.ps ℕ
 μ-try-at κs a = 5 * (20 - a .1 .1 .1 .0 .position) + 2
 
-abbrev blind-at : ℕ → In 0 blind-kinds.ps
-blind-at t = and 0 blind-kinds.ps (is 0 blind-kinds.ps μ-blind t) blind.Pre
-
-abbrev blind-below : ℕ → In 0 blind-kinds.ps
-blind-below t = and 0 blind-kinds.ps (falls 0 blind-kinds.ps _<_ μ-blind t) blind.Pre
+abbrev μ-walk-on : Measures 0 walk-on-kinds.ps ℕ
+μ-walk-on κs a = 5 * (20 - a .1 .1 .1 .0 .position) + 4
 
 abbrev both-ways-at : ℕ → In 0 both-ways-kinds.ps
 both-ways-at t = and 0 both-ways-kinds.ps (is 0 both-ways-kinds.ps μ-both-ways t) both-ways.Pre
@@ -186,8 +176,11 @@ try-at-at t = and 0 try-at-kinds.ps (is 0 try-at-kinds.ps μ-try-at t) try-at.Pr
 abbrev try-at-below : ℕ → In 0 try-at-kinds.ps
 try-at-below t = and 0 try-at-kinds.ps (falls 0 try-at-kinds.ps _<_ μ-try-at t) try-at.Pre
 
-abbrev blind-claims : ℕ → blind-lts.Claims
-blind-claims t = (fruitless-reads.Asked, fruitless-reads.Learnt, worth-asking-reads.Asked, worth-asking-reads.Learnt, unknown-reads.Asked, unknown-reads.Learnt, unread-reads.Asked, unread-reads.Learnt, search-runs-below t, search-runs.Post, told-reads.Asked, told-reads.Learnt)
+abbrev walk-on-at : ℕ → In 0 walk-on-kinds.ps
+walk-on-at t = and 0 walk-on-kinds.ps (is 0 walk-on-kinds.ps μ-walk-on t) walk-on.Pre
+
+abbrev walk-on-below : ℕ → In 0 walk-on-kinds.ps
+walk-on-below t = and 0 walk-on-kinds.ps (falls 0 walk-on-kinds.ps _<_ μ-walk-on t) walk-on.Pre
 
 abbrev both-ways-claims : ℕ → both-ways-lts.Claims
 both-ways-claims t = (search-runs-below t, search-runs.Post, ended-reads.Asked, ended-reads.Learnt, held-reads.Asked, held-reads.Learnt, of-register-reads.Asked, of-register-reads.Learnt, before-straight-reads.Asked, before-straight-reads.Learnt, at-position-reads.Asked, at-position-reads.Learnt, after-reads.Asked, after-reads.Learnt, is-reads.Asked, is-reads.Learnt, and-reads.Asked, and-reads.Learnt)
@@ -199,82 +192,19 @@ abbrev keeps-claims : ℕ → keeps-lts.Claims
 keeps-claims t = (execute-reads.Asked, execute-reads.Learnt, certified-reads.Asked, certified-reads.Learnt, search-runs-below t, search-runs.Post)
 
 abbrev own-reached-claims : ℕ → own-reached-lts.Claims
-own-reached-claims t = (barring-reads.Asked, barring-reads.Learnt, noting-reads.Asked, noting-reads.Learnt, own-store-reads.Asked, own-store-reads.Learnt, own-message-reads.Asked, own-message-reads.Learnt, append-reads.Asked, append-reads.Learnt, search-runs-below t, search-runs.Post, loads-ahead-reads.Asked, loads-ahead-reads.Learnt, and-reads.Asked, and-reads.Learnt)
+own-reached-claims t = (own-store-reads.Asked, own-store-reads.Learnt, own-asks-reads.Asked, own-asks-reads.Learnt, own-message-reads.Asked, own-message-reads.Learnt, append-reads.Asked, append-reads.Learnt, search-runs-below t, search-runs.Post, loads-ahead-reads.Asked, loads-ahead-reads.Learnt, and-reads.Asked, and-reads.Learnt)
 
 abbrev search-at-claims : ℕ → search-at-lts.Claims
-search-at-claims t = (worth-a-look-reads.Asked, worth-a-look-reads.Learnt, blind-below t, blind.Post, earliest-reads.Asked, earliest-reads.Learnt, filled-below t, filled.Post, untried-reads.Asked, untried-reads.Learnt, hopeless-reads.Asked, hopeless-reads.Learnt, try-at-below t, try-at.Post, ended-reads.Asked, ended-reads.Learnt, following-reads.Asked, following-reads.Learnt, appends-reads.Asked, appends-reads.Learnt, after-reads.Asked, after-reads.Learnt, own-reached-below t, own-reached.Post, asks-reads.Asked, asks-reads.Learnt, and-reads.Asked, and-reads.Learnt)
+search-at-claims t = (worth-a-look-reads.Asked, worth-a-look-reads.Learnt, foreseen-reads.Asked, foreseen-reads.Learnt, worth-asking-reads.Asked, worth-asking-reads.Learnt, unread-reads.Asked, unread-reads.Learnt, search-runs-below t, search-runs.Post, told-reads.Asked, told-reads.Learnt, earliest-reads.Asked, earliest-reads.Learnt, filled-below t, filled.Post, untried-reads.Asked, untried-reads.Learnt, hopeless-reads.Asked, hopeless-reads.Learnt, try-at-below t, try-at.Post, ended-reads.Asked, ended-reads.Learnt, following-reads.Asked, following-reads.Learnt, appends-reads.Asked, appends-reads.Learnt, after-reads.Asked, after-reads.Learnt, own-reached-below t, own-reached.Post, asks-reads.Asked, asks-reads.Learnt, and-reads.Asked, and-reads.Learnt)
 
 abbrev search-runs-claims : ℕ → search-runs-lts.Claims
-search-runs-claims t = (kept-reads.Asked, kept-reads.Learnt, emptied-reads.Asked, emptied-reads.Learnt, halts-reads.Asked, halts-reads.Learnt, instr-at-reads.Asked, instr-at-reads.Learnt, search-at-below t, search-at.Post, straight-reads.Asked, straight-reads.Learnt, both-ways-below t, both-ways.Post, search-runs-below t, search-runs.Post, ended-reads.Asked, ended-reads.Learnt, before-straight-reads.Asked, before-straight-reads.Learnt)
+search-runs-claims t = (kept-reads.Asked, kept-reads.Learnt, emptied-reads.Asked, emptied-reads.Learnt, halts-reads.Asked, halts-reads.Learnt, instr-at-reads.Asked, instr-at-reads.Learnt, search-at-below t, search-at.Post, walk-on-below t, walk-on.Post)
 
 abbrev try-at-claims : ℕ → try-at-lts.Claims
-try-at-claims t = (execute-reads.Asked, execute-reads.Learnt, after-reads.Asked, after-reads.Learnt, kept-reads.Asked, kept-reads.Learnt, emptied-reads.Asked, emptied-reads.Learnt, idle-reads.Asked, idle-reads.Learnt, lowered-reads.Asked, lowered-reads.Learnt, search-runs-below t, search-runs.Post, noted-reads.Asked, noted-reads.Learnt)
+try-at-claims t = (execute-reads.Asked, execute-reads.Learnt, after-reads.Asked, after-reads.Learnt, kept-reads.Asked, kept-reads.Learnt, emptied-reads.Asked, emptied-reads.Learnt, idle-reads.Asked, idle-reads.Learnt, resumed-reads.Asked, resumed-reads.Learnt, search-runs-below t, search-runs.Post, noted-reads.Asked, noted-reads.Learnt)
 
-blind-fruitless-requires : (t : ℕ) → blind-lts.Need-fruitless-requires (blind-claims t) (blind-at t) blind.Post
-blind-fruitless-requires t c κs = let w = c .before .pre .1 .0 in (w .ready .code-ok .short, w .ready .room)
-
-blind-returns : (t : ℕ) → blind-lts.Need-returns (blind-claims t) (blind-at t) blind.Post
-blind-returns t c = λ e. fruitless-found _ _ _ _ (c .before .before .before .before .args .q) _ (c .before .before .fruitless .ensures (c .before .if1 .taken))
-
-blind-worth-asking-requires : (t : ℕ) → blind-lts.Need-worth-asking-requires (blind-claims t) (blind-at t) blind.Post
-blind-worth-asking-requires t c κs = let w = c .before .before .before .pre .1 .0 in let l = there _ _ _ (w .is-next) .0 in (w .ready .code-ok .short, let h = w .ready .code-ok .short in omega arith)
-
-blind-unknown-requires : (t : ℕ) → blind-lts.Need-unknown-requires (blind-claims t) (blind-at t) blind.Post
-blind-unknown-requires t c κs = search needs
-
-blind-returns-2 : (t : ℕ) → blind-lts.Need-returns-2 (blind-claims t) (blind-at t) blind.Post
-blind-returns-2 t c = λ e. absurd (subst T (sym e ∙ c .unknown .ensures) tt)
-
-blind-enum-known-x : (t : ℕ) → blind-lts.Need-enum-known-x (blind-claims t) (blind-at t) blind.Post
-blind-enum-known-x t c = search needs
-
-blind-unread-requires : (t : ℕ) → blind-lts.Need-unread-requires (blind-claims t) (blind-at t) blind.Post
-blind-unread-requires t c κs = let w = c .before .before .before .before .before .before .before .before .pre .1 .0 in let h = reach-byte _ _ _ _ w in let q = rw (c .before .x .given .1) at h in omega arith
-
-blind-search-runs-requires : (t : ℕ) → blind-lts.Need-search-runs-requires (blind-claims t) (blind-at t) blind.Post
-blind-search-runs-requires t c κs = let w = c .before .before .before .before .before .before .before .before .before .pre .1 .0 in let at = ap (λ (v : Thread). v .position) (c .unread .ensures) in let l = there _ _ _ (w .is-next) .0 in let h = w .ready .code-ok .short in (omega (arith, c .before .before .before .before .before .before .before .before .before .pre .0), ready-as (w .ready) (ap (λ (v : Thread). v .promises) (c .unread .ensures)))
-
-blind-told-requires : (t : ℕ) → blind-lts.Need-told-requires (blind-claims t) (blind-at t) blind.Post
-blind-told-requires t c κs = search needs
-
-blind-enum-told : (t : ℕ) → blind-lts.Need-enum-told (blind-claims t) (blind-at t) blind.Post
-blind-enum-told t c = search needs
-
-blind-unknown-requires-2 : (t : ℕ) → blind-lts.Need-unknown-requires-2 (blind-claims t) (blind-at t) blind.Post
-blind-unknown-requires-2 t c κs = search needs
-
-blind-enum-told-2 : (t : ℕ) → blind-lts.Need-enum-told-2 (blind-claims t) (blind-at t) blind.Post
-blind-enum-told-2 t c = search needs
-
-blind-unknown-requires-3 : (t : ℕ) → blind-lts.Need-unknown-requires-3 (blind-claims t) (blind-at t) blind.Post
-blind-unknown-requires-3 t c κs = search needs
-
-blind-enum-told-3 : (t : ℕ) → blind-lts.Need-enum-told-3 (blind-claims t) (blind-at t) blind.Post
-blind-enum-told-3 t c = search needs
-
-blind-unknown-requires-4 : (t : ℕ) → blind-lts.Need-unknown-requires-4 (blind-claims t) (blind-at t) blind.Post
-blind-unknown-requires-4 t c κs = search needs
-
-blind-enum-told-4 : (t : ℕ) → blind-lts.Need-enum-told-4 (blind-claims t) (blind-at t) blind.Post
-blind-enum-told-4 t c = search needs
-
-blind-unknown-requires-5 : (t : ℕ) → blind-lts.Need-unknown-requires-5 (blind-claims t) (blind-at t) blind.Post
-blind-unknown-requires-5 t c κs = search needs
-
-blind-returns-3 : (t : ℕ) → blind-lts.Need-returns-3 (blind-claims t) (blind-at t) blind.Post
-blind-returns-3 t c = λ e. blind-found _ _ _ _ _ (c .before .before .before .before .before .before .before .before .before .before .before .pre .1 .0 .is-next) (c .before .before .before .before .before .before .before .before .before .before .before .args .q) (c .before .before .before .before .before .before .before .before .before .before .before .pre .1 .1) _ _ _ _ (c .before .before .before .before .x .given .1) _ (c .before .before .unread .ensures) _ (c .before .search-runs .ensures) _ (c .told .ensures e)
-
-blind-returns-4 : (t : ℕ) → blind-lts.Need-returns-4 (blind-claims t) (blind-at t) blind.Post
-blind-returns-4 t c = λ e. absurd (subst T (sym e ∙ c .unknown2 .ensures) tt)
-
-blind-returns-5 : (t : ℕ) → blind-lts.Need-returns-5 (blind-claims t) (blind-at t) blind.Post
-blind-returns-5 t c = λ e. absurd (subst T (sym e ∙ c .unknown3 .ensures) tt)
-
-blind-returns-6 : (t : ℕ) → blind-lts.Need-returns-6 (blind-claims t) (blind-at t) blind.Post
-blind-returns-6 t c = λ e. absurd (subst T (sym e ∙ c .unknown4 .ensures) tt)
-
-blind-returns-7 : (t : ℕ) → blind-lts.Need-returns-7 (blind-claims t) (blind-at t) blind.Post
-blind-returns-7 t c = λ e. absurd (subst T (sym e ∙ c .unknown5 .ensures) tt)
+abbrev walk-on-claims : ℕ → walk-on-lts.Claims
+walk-on-claims t = (straight-reads.Asked, straight-reads.Learnt, both-ways-below t, both-ways.Post, search-runs-below t, search-runs.Post, ended-reads.Asked, ended-reads.Learnt, before-straight-reads.Asked, before-straight-reads.Learnt)
 
 both-ways-search-runs-requires : (t : ℕ) → both-ways-lts.Need-search-runs-requires (both-ways-claims t) (both-ways-at t) both-ways.Post
 both-ways-search-runs-requires t c κs = let f = c .pre .1 .1 .0 in let w = c .pre .1 .0 in let l = fork-this _ _ _ _ _ _ f (w .code-ok) in (omega (arith, c .pre .0), leads-ready (walked-leads (c .pre .1 .1 .1 .0)) w)
@@ -442,17 +372,13 @@ own-reached-returns t c = (owns-untried _ _ _ _ _ (c .before .before .args .q) _
 own-reached-enum-known-x : (t : ℕ) → own-reached-lts.Need-enum-known-x (own-reached-claims t) (own-reached-at t) own-reached.Post
 own-reached-enum-known-x t c = search needs
 
-own-reached-barring-requires : (t : ℕ) → own-reached-lts.Need-barring-requires (own-reached-claims t) (own-reached-at t) own-reached.Post
-own-reached-barring-requires t c κs = search needs
-
-own-reached-noting-requires : (t : ℕ) → own-reached-lts.Need-noting-requires (own-reached-claims t) (own-reached-at t) own-reached.Post
-own-reached-noting-requires t c κs = search needs
-
-own-reached-noting-requires-2 : (t : ℕ) → own-reached-lts.Need-noting-requires-2 (own-reached-claims t) (own-reached-at t) own-reached.Post
-own-reached-noting-requires-2 t c κs = search needs
-
 own-reached-own-store-requires : (t : ℕ) → own-reached-lts.Need-own-store-requires (own-reached-claims t) (own-reached-at t) own-reached.Post
-own-reached-own-store-requires t c κs = let w = c .before .before .before .before .before .before .before .before .pre .1 .0 in let h = reach-byte _ _ _ _ w in let l = w .ready .code-ok .short in let q = rw (c .before .before .before .before .x .given .1) at h in (omega arith, (c .before .before .before .before .before .before .before .before .pre .1 .1 .room (not-false _ (c .before .before .before .before .before .before .if1 .left)), w .ready .promises-in))
+own-reached-own-store-requires t c κs =
+    let w = c .before .before .before .before .before .pre .1 .0 in
+    let h = reach-byte _ _ _ _ w in
+    let l = w .ready .code-ok .short in
+    let q = rw (c .before .x .given .1) at h in
+    (omega arith, (c .before .before .before .before .before .pre .1 .1 .room (not-false _ (c .before .before .before .if1 .left)), w .ready .promises-in))
 
 own-reached-enum-told : (t : ℕ) → own-reached-lts.Need-enum-told (own-reached-claims t) (own-reached-at t) own-reached.Post
 own-reached-enum-told t c = search needs
@@ -460,27 +386,31 @@ own-reached-enum-told t c = search needs
 own-reached-enum-told-2 : (t : ℕ) → own-reached-lts.Need-enum-told-2 (own-reached-claims t) (own-reached-at t) own-reached.Post
 own-reached-enum-told-2 t c = search needs
 
+own-reached-own-asks-requires : (t : ℕ) → own-reached-lts.Need-own-asks-requires (own-reached-claims t) (own-reached-at t) own-reached.Post
+own-reached-own-asks-requires t c κs = search needs
+
 own-reached-returns-2 : (t : ℕ) → own-reached-lts.Need-returns-2 (own-reached-claims t) (own-reached-at t) own-reached.Post
 own-reached-returns-2 t c =
-    let early = c .before .before .before .before in
-    (owns-stuck _ _ _ _ _ (early .before .before .before .before .before .before .before .args .q) (early .before .before .before .before .before .before .before .args .k) _ _ _ (early .before .before .before .x .given .1) (early .before .before .before .before .before .before .before .pre .1 .1 .room (not-false _ (early .before .before .before .before .before .if1 .left))) _ (c .before .before .own-store .ensures) _ (λ v w g. rw (early .before .barring .ensures) at (early .noting .ensures v w (c .before .before .before .noting2 .ensures v w g .0) .1)) (λ v w g. c .before .before .before .noting2 .ensures v w g .1) _ (c .enum-told2 .given .1), record { agreeing = λ v w g. early .noting .ensures v w (c .before .before .before .noting2 .ensures v w g .0) .0 })
+    let asked = c .own-asks .ensures in
+    (owns-stuck _ _ _ _ _ (c .before .before .before .before .before .before .before .before .before .args .q) (c .before .before .before .before .before .before .before .before .before .args .k) _ _ _ (c .before .before .before .before .before .x .given .1) (c .before .before .before .before .before .before .before .before .before .pre .1 .1 .room (not-false _ (c .before .before .before .before .before .before .before .if1 .left))) _ (c .before .before .before .own-store .ensures) _ (asked .place) (asked .value refl) _ (c .before .enum-told2 .given .1), record { agreeing = asked .besides })
 
 own-reached-own-message-requires : (t : ℕ) → own-reached-lts.Need-own-message-requires (own-reached-claims t) (own-reached-at t) own-reached.Post
 own-reached-own-message-requires t c κs = search needs
 
 own-reached-append-requires : (t : ℕ) → own-reached-lts.Need-append-requires (own-reached-claims t) (own-reached-at t) own-reached.Post
-own-reached-append-requires t c κs =
-    let early = c .before .before .before .before .before .before .before .before .before .before in
-    early .before .before .pre .1 .1 .room (not-false _ (early .if1 .left))
+own-reached-append-requires t c κs = c .before .before .before .before .before .before .before .before .before .pre .1 .1 .room (not-false _ (c .before .before .before .before .before .before .before .if1 .left))
 
 own-reached-search-runs-requires : (t : ℕ) → own-reached-lts.Need-search-runs-requires (own-reached-claims t) (own-reached-at t) own-reached.Post
-own-reached-search-runs-requires t c κs = let f = further-own _ _ _ _ (c .before .before .before .before .before .before .before .before .before .before .before .before .before .pre .1 .0) _ _ _ (c .before .before .before .before .before .before .before .before .before .x .given .1) _ _ (c .before .before .before .before .own-store .ensures) (c .before .before .enum-told .given .1) in (omega (arith, c .before .before .before .before .before .before .before .before .before .before .before .before .before .pre .0), rw (c .append .ensures, c .before .own-message .ensures) (ready-own _ _ _ _ _ (c .before .before .before .before .before .before .before .before .before .before .before .before .before .pre .1 .0 .ready) (c .before .before .before .before .before .before .before .before .before .before .before .before .before .pre .1 .1 .room (not-false _ (c .before .before .before .before .before .before .before .before .before .before .before .if1 .left))) (ruled-done _ _ _ (c .before .before .before .before .own-store .ensures) (c .before .before .enum-told .given .1))))
+own-reached-search-runs-requires t c κs =
+    let w = c .before .before .before .before .before .before .before .before .before .before .pre .1 .0 in
+    let f = further-own _ _ _ _ w _ _ _ (c .before .before .before .before .before .before .x .given .1) _ _ (c .before .before .before .before .own-store .ensures) (c .before .before .enum-told .given .1) in
+    (omega (arith, c .before .before .before .before .before .before .before .before .before .before .pre .0), rw (c .append .ensures, c .before .own-message .ensures) (ready-own _ _ _ _ _ (w .ready) (c .before .before .before .before .before .before .before .before .before .before .pre .1 .1 .room (not-false _ (c .before .before .before .before .before .before .before .before .if1 .left))) (ruled-done _ _ _ (c .before .before .before .before .own-store .ensures) (c .before .before .enum-told .given .1))))
 
 own-reached-loads-ahead-requires : (t : ℕ) → own-reached-lts.Need-loads-ahead-requires (own-reached-claims t) (own-reached-at t) own-reached.Post
-own-reached-loads-ahead-requires t c κs = c .before .before .before .before .before .before .before .before .before .before .before .before .before .before .before .before .pre .1 .0 .ready .code-ok .short
+own-reached-loads-ahead-requires t c κs = c .before .before .before .before .before .before .before .before .before .before .before .before .before .pre .1 .0 .ready .code-ok .short
 
-own-reached-and-requires-2 : (t : ℕ) → own-reached-lts.Need-and-requires-2 (own-reached-claims t) (own-reached-at t) own-reached.Post
-own-reached-and-requires-2 t c κs = search needs
+own-reached-own-asks-requires-2 : (t : ℕ) → own-reached-lts.Need-own-asks-requires-2 (own-reached-claims t) (own-reached-at t) own-reached.Post
+own-reached-own-asks-requires-2 t c κs = search needs
 
 own-reached-and-requires : (t : ℕ) → own-reached-lts.Need-and-requires (own-reached-claims t) (own-reached-at t) own-reached.Post
 own-reached-and-requires t c κs = search needs
@@ -498,22 +428,21 @@ own-reached-enum-told-6 : (t : ℕ) → own-reached-lts.Need-enum-told-6 (own-re
 own-reached-enum-told-6 t c = search needs
 
 own-reached-returns-3 : (t : ℕ) → own-reached-lts.Need-returns-3 (own-reached-claims t) (own-reached-at t) own-reached.Post
-own-reached-returns-3 t c = (owns-goes _ _ _ _ _ (c .before .before .before .before .before .before .before .before .before .before .before .before .before .before .before .before .before .before .before .args .q) (c .before .before .before .before .before .before .before .before .before .before .before .before .before .before .before .before .before .before .before .args .k) _ _ _ (c .before .before .before .before .before .before .before .before .before .before .before .before .before .before .before .x .given .1) (c .before .before .before .before .before .before .before .before .before .before .before .before .before .before .before .before .before .before .before .pre .1 .1 .room (not-false _ (c .before .before .before .before .before .before .before .before .before .before .before .before .before .before .before .before .before .if1 .left))) _ (c .before .before .before .before .before .before .before .before .before .before .own-store .ensures) _ (λ v w g. rw (c .before .before .before .before .before .before .before .before .before .before .before .before .before .barring .ensures) at (c .before .before .before .before .before .before .before .before .before .before .before .before .noting .ensures v w (c .before .before .before .before .before .before .before .before .before .before .before .noting2 .ensures v w g .0) .1)) (λ v w g. c .before .before .before .before .before .before .before .before .before .before .before .noting2 .ensures v w g .1) _ (rw (c .before .before .before .before .before .before .append .ensures, c .before .before .before .before .before .before .before .own-message .ensures)) (c .before .before .before .before .before .before .before .before .enum-told .given .1) _ (c .before .before .before .before .before .search-runs .ensures) _ (c .and .ensures .0) (c .and .ensures .1), covers-on (c .and .ensures .1) (record { agreeing = λ v w g. c .before .before .before .before .before .before .before .before .before .before .before .before .noting .ensures v w (c .before .before .before .before .before .before .before .before .before .before .before .noting2 .ensures v w g .0) .0 }))
+own-reached-returns-3 t c =
+    let asked = c .before .own-asks2 .ensures in
+    (owns-on _ _ _ _ _ (c .before .before .before .before .before .before .before .before .before .before .before .before .before .before .before .before .args .q) (c .before .before .before .before .before .before .before .before .before .before .before .before .before .before .before .before .args .k) _ _ _ (c .before .before .before .before .before .before .before .before .before .before .before .before .x .given .1) (c .before .before .before .before .before .before .before .before .before .before .before .before .before .before .before .before .pre .1 .1 .room (not-false _ (c .before .before .before .before .before .before .before .before .before .before .before .before .before .before .if1 .left))) _ (c .before .before .before .before .before .before .before .before .before .before .own-store .ensures) _ (asked .place) _ (asked .value) (c .before .before .loads-ahead .ensures) (c .before .before .before .before .before .before .before .before .before .before .before .before .before .before .before .before .pre .1 .0 .ready .promises-in) _ (rw (c .before .before .before .before .before .before .append .ensures, c .before .before .before .before .before .before .before .own-message .ensures)) (c .before .before .before .before .before .before .before .before .enum-told .given .1) _ (c .before .before .before .before .before .search-runs .ensures) _ (c .and .ensures .0) (c .and .ensures .1), covers-on (c .and .ensures .1) (record { agreeing = asked .besides }))
 
 own-reached-returns-4 : (t : ℕ) → own-reached-lts.Need-returns-4 (own-reached-claims t) (own-reached-at t) own-reached.Post
-own-reached-returns-4 t c = (owns-apart _ _ _ _ _ (c .before .before .before .before .before .before .before .before .before .before .before .before .before .before .before .before .before .before .before .args .q) (c .before .before .before .before .before .before .before .before .before .before .before .before .before .before .before .before .before .before .before .args .k) _ _ _ (c .before .before .before .before .before .before .before .before .before .before .before .before .before .before .before .x .given .1) (c .before .before .before .before .before .before .before .before .before .before .before .before .before .before .before .before .before .before .before .pre .1 .1 .room (not-false _ (c .before .before .before .before .before .before .before .before .before .before .before .before .before .before .before .before .before .if1 .left))) _ (c .before .before .before .before .before .before .before .before .before .before .own-store .ensures) _ (λ v w g. rw (c .before .before .before .before .before .before .before .before .before .before .before .before .before .barring .ensures) at (c .before .before .before .before .before .before .before .before .before .before .before .before .noting .ensures v w g .1)) (c .before .before .loads-ahead .ensures (c .before .if2 .left)) (c .before .before .before .before .before .before .before .before .before .before .before .before .before .before .before .before .before .before .before .pre .1 .0 .ready .promises-in) _ (rw (c .before .before .before .before .before .before .append .ensures, c .before .before .before .before .before .before .before .own-message .ensures)) (c .before .before .before .before .before .before .before .before .enum-told .given .1) _ (c .before .before .before .before .before .search-runs .ensures) _ (c .and2 .ensures .0) (c .and2 .ensures .1), covers-on (c .and2 .ensures .1) (record { agreeing = λ v w g. c .before .before .before .before .before .before .before .before .before .before .before .before .noting .ensures v w g .0 }))
+own-reached-returns-4 t c = (owns-none _ _ _ _ _ (c .before .before .before .before .args .q) _ (λ y. rw (c .enum-told3 .given .1)), covers-self _)
 
 own-reached-returns-5 : (t : ℕ) → own-reached-lts.Need-returns-5 (own-reached-claims t) (own-reached-at t) own-reached.Post
-own-reached-returns-5 t c = (owns-none _ _ _ _ _ (c .before .before .before .before .args .q) _ (λ y. rw (c .enum-told3 .given .1)), covers-self _)
+own-reached-returns-5 t c = (owns-none _ _ _ _ _ (c .before .before .before .before .args .q) _ (λ y. rw (c .enum-told4 .given .1)), covers-self _)
 
 own-reached-returns-6 : (t : ℕ) → own-reached-lts.Need-returns-6 (own-reached-claims t) (own-reached-at t) own-reached.Post
-own-reached-returns-6 t c = (owns-none _ _ _ _ _ (c .before .before .before .before .args .q) _ (λ y. rw (c .enum-told4 .given .1)), covers-self _)
+own-reached-returns-6 t c = (owns-none _ _ _ _ _ (c .before .before .before .before .args .q) _ (λ y. rw (c .enum-told5 .given .1)), covers-self _)
 
 own-reached-returns-7 : (t : ℕ) → own-reached-lts.Need-returns-7 (own-reached-claims t) (own-reached-at t) own-reached.Post
-own-reached-returns-7 t c = (owns-none _ _ _ _ _ (c .before .before .before .before .args .q) _ (λ y. rw (c .enum-told5 .given .1)), covers-self _)
-
-own-reached-returns-8 : (t : ℕ) → own-reached-lts.Need-returns-8 (own-reached-claims t) (own-reached-at t) own-reached.Post
-own-reached-returns-8 t c = (owns-none _ _ _ _ _ (c .before .before .before .before .args .q) _ (λ y. rw (c .enum-told6 .given .1)), covers-self _)
+own-reached-returns-7 t c = (owns-none _ _ _ _ _ (c .before .before .before .before .args .q) _ (λ y. rw (c .enum-told6 .given .1)), covers-self _)
 
 abbrev search-at-Inv-loop : search-at-lts.InvT-loop
 search-at-Inv-loop c i m s x q t₀ r₀ t r = Missed c i m s x q r 0 t × (Better (q .from) (Meets c i m s (q .hole)) (r₀ .met) (r .met) × (Covers (r .cares .of) (r₀ .cares .of) × (t ≤ 17)))
@@ -524,11 +453,34 @@ search-at-μ-loop c i m s x q t₀ r₀ t r = 17 - t
 search-at-worth-a-look-requires : (t : ℕ) → search-at-lts.Need-worth-a-look-requires (search-at-claims t) (search-at-at t) search-at.Post search-at-Inv-loop search-at-μ-loop
 search-at-worth-a-look-requires t c κs = let w = c .pre .1 .0 in let h = w .ready .code-ok .short in let l = there _ _ _ (w .is-next) .0 in (h, omega arith)
 
-search-at-blind-requires : (t : ℕ) → search-at-lts.Need-blind-requires (search-at-claims t) (search-at-at t) search-at.Post search-at-Inv-loop search-at-μ-loop
-search-at-blind-requires t c κs = (omega (arith, c .before .before .pre .0), c .before .before .pre .1)
+search-at-foreseen-requires : (t : ℕ) → search-at-lts.Need-foreseen-requires (search-at-claims t) (search-at-at t) search-at.Post search-at-Inv-loop search-at-μ-loop
+search-at-foreseen-requires t c κs = let w = c .before .before .pre .1 .0 in (w .ready .code-ok .short, w .ready .room)
 
 search-at-returns : (t : ℕ) → search-at-lts.Need-returns (search-at-claims t) (search-at-at t) search-at.Post search-at-Inv-loop search-at-μ-loop
-search-at-returns t c = c .before .before .blind .ensures (c .before .if2 .taken)
+search-at-returns t c = c .before .before .foreseen .ensures (c .before .if2 .taken) _
+
+search-at-worth-asking-requires : (t : ℕ) → search-at-lts.Need-worth-asking-requires (search-at-claims t) (search-at-at t) search-at.Post search-at-Inv-loop search-at-μ-loop
+search-at-worth-asking-requires t c κs = let w = c .before .before .before .before .pre .1 .0 in let l = there _ _ _ (w .is-next) .0 in (w .ready .code-ok .short, let h = w .ready .code-ok .short in omega arith)
+
+search-at-enum-known-load : (t : ℕ) → search-at-lts.Need-enum-known-load (search-at-claims t) (search-at-at t) search-at.Post search-at-Inv-loop search-at-μ-loop
+search-at-enum-known-load t c = search needs
+
+search-at-unread-requires : (t : ℕ) → search-at-lts.Need-unread-requires (search-at-claims t) (search-at-at t) search-at.Post search-at-Inv-loop search-at-μ-loop
+search-at-unread-requires t c κs = let h = reach-byte _ _ _ _ (c .before .before .before .before .before .before .before .before .before .pre .1 .0) in let q = rw (c .before .load .given .1) at h in omega arith
+
+search-at-search-runs-requires : (t : ℕ) → search-at-lts.Need-search-runs-requires (search-at-claims t) (search-at-at t) search-at.Post search-at-Inv-loop search-at-μ-loop
+search-at-search-runs-requires t c κs =
+    let w = c .before .before .before .before .before .before .before .before .before .before .pre .1 .0 in
+    let at = ap (λ (v : Thread). v .position) (c .unread .ensures) in
+    let l = there _ _ _ (w .is-next) .0 in
+    let h = w .ready .code-ok .short in
+    (omega (arith, c .before .before .before .before .before .before .before .before .before .before .pre .0), ready-as (w .ready) (ap (λ (v : Thread). v .promises) (c .unread .ensures)))
+
+search-at-told-requires : (t : ℕ) → search-at-lts.Need-told-requires (search-at-claims t) (search-at-at t) search-at.Post search-at-Inv-loop search-at-μ-loop
+search-at-told-requires t c κs = search needs
+
+search-at-returns-2 : (t : ℕ) → search-at-lts.Need-returns-2 (search-at-claims t) (search-at-at t) search-at.Post search-at-Inv-loop search-at-μ-loop
+search-at-returns-2 t c = blind-found _ _ _ _ _ (c .before .before .before .before .before .before .before .before .before .before .before .before .before .before .pre .1 .0 .is-next) (c .before .before .before .before .before .before .before .before .before .before .before .before .before .before .args .q) (c .before .before .before .before .before .before .before .before .before .before .before .before .before .before .pre .1 .1) _ _ _ _ (c .before .before .before .before .before .before .load .given .1) _ (c .before .before .before .before .unread .ensures) _ (c .before .before .before .search-runs .ensures) _ (c .before .before .told .ensures (c .before .if4 .taken))
 
 search-at-earliest-requires : (t : ℕ) → search-at-lts.Need-earliest-requires (search-at-claims t) (search-at-at t) search-at.Post search-at-Inv-loop search-at-μ-loop
 search-at-earliest-requires t c κs = c .before .before .pre .1 .0 .ready .room
@@ -551,8 +503,8 @@ search-at-try-at-requires t c κs = (omega (arith, c .before .before .before .be
 search-at-ended-requires : (t : ℕ) → search-at-lts.Need-ended-requires (search-at-claims t) (search-at-at t) search-at.Post search-at-Inv-loop search-at-μ-loop
 search-at-ended-requires t c κs = search needs
 
-search-at-returns-2 : (t : ℕ) → search-at-lts.Need-returns-2 (search-at-claims t) (search-at-at t) search-at.Post search-at-Inv-loop search-at-μ-loop
-search-at-returns-2 t c = reach-ended _ _ _ _ (c .before .before .before .before .before .before .before .before .before .before .before .before .before .before .args .q) _ (better-on (fills-meets _ _ _ _ (c .before .before .before .before .before .before .before .before .before .before .before .before .before .before .args .q) _ (c .before .before .before .before .before .before .before .before .before .before .before .before .before .before .pre .1 .0 .is-next) _ (c .before .before .before .before .before .before .before .before .before .before .filled .ensures)) (better-on (rw (c .before .before .before .before .before .before .before .before .before .untried .ensures) at (c .before .before .before .before .before .before .before .before .loop .inv .1 .0)) (tried-meets _ _ _ _ (c .before .before .before .before .before .before .before .before .before .before .before .before .before .before .args .q) _ (c .before .before .before .before .before .before .before .before .before .before .before .before .before .before .pre .1 .0 .is-next) _ (c .before .before .before .before .before .before .before .before .before .before .filled .ensures) _ (c .before .before .before .before .try-at .ensures .better)))) (c .before .before .ended .ensures (c .before .if4 .taken))
+search-at-returns-3 : (t : ℕ) → search-at-lts.Need-returns-3 (search-at-claims t) (search-at-at t) search-at.Post search-at-Inv-loop search-at-μ-loop
+search-at-returns-3 t c = reach-ended _ _ _ _ (c .before .before .before .before .before .before .before .before .before .before .before .before .before .before .args .q) _ (better-on (fills-meets _ _ _ _ (c .before .before .before .before .before .before .before .before .before .before .before .before .before .before .args .q) _ (c .before .before .before .before .before .before .before .before .before .before .before .before .before .before .pre .1 .0 .is-next) _ (c .before .before .before .before .before .before .before .before .before .before .filled .ensures)) (better-on (rw (c .before .before .before .before .before .before .before .before .before .untried .ensures) at (c .before .before .before .before .before .before .before .before .loop .inv .1 .0)) (tried-meets _ _ _ _ (c .before .before .before .before .before .before .before .before .before .before .before .before .before .before .args .q) _ (c .before .before .before .before .before .before .before .before .before .before .before .before .before .before .pre .1 .0 .is-next) _ (c .before .before .before .before .before .before .before .before .before .before .filled .ensures) _ (c .before .before .before .before .try-at .ensures .better)))) (c .before .before .ended .ensures (c .before .if6 .taken))
 
 search-at-following-requires : (t : ℕ) → search-at-lts.Need-following-requires (search-at-claims t) (search-at-at t) search-at.Post search-at-Inv-loop search-at-μ-loop
 search-at-following-requires t c κs = (c .before .before .before .before .before .before .before .before .before .pre .1 .0 .ready .room, c .before .before .loop-test .taken)
@@ -565,10 +517,10 @@ search-at-loop-again t c =
     let a = c .before .before .before .before .before .before .before .before .before .before .args in
     let w = c .before .before .before .before .before .before .before .before .before .before .pre .1 .0 in
     let l = c .before .before .before .before .loop in
-    let went : Went (a .c) (a .i) (a .m) (a .s) (a .x) (a .q) (l .r) (l .t) (c .before .if3 .r) = ⊎-elim
+    let went : Went (a .c) (a .i) (a .m) (a .s) (a .x) (a .q) (l .r) (l .t) (c .before .if5 .r) = ⊎-elim
     (λ z. subst (Went (a .c) (a .i) (a .m) (a .s) (a .x) (a .q) (l .r) (l .t)) (sym (z .5)) (z .1 .ensures))
     (λ z. subst (Went (a .c) (a .i) (a .m) (a .s) (a .x) (a .q) (l .r) (l .t)) (sym (z .1)) (went-hopeless _ _ _ _ _ _ _ _ (l .inv .0 .knows) w (c .before .before .hopeless .ensures (not-false _ (z .0 .left)))))
-    (c .before .if3 .came) in
+    (c .before .if5 .came) in
     (missed-on _ _ _ _ _ _ _ _ _ _ _ (l .inv .0) went (c .following .ensures), (better-on (l .inv .1 .0) (tried-meets _ _ _ _ (a .q) _ (w .is-next) _ (c .before .before .before .before .before .before .filled .ensures) _ (went .better)), (covers-on (went .covers) (l .inv .1 .1 .0), c .following .ensures .within)))
 
 search-at-appends-requires : (t : ℕ) → search-at-lts.Need-appends-requires (search-at-claims t) (search-at-at t) search-at.Post search-at-Inv-loop search-at-μ-loop
@@ -583,8 +535,8 @@ search-at-own-reached-requires t c κs = (omega (arith, c .before .before .befor
 search-at-ended-requires-2 : (t : ℕ) → search-at-lts.Need-ended-requires-2 (search-at-claims t) (search-at-at t) search-at.Post search-at-Inv-loop search-at-μ-loop
 search-at-ended-requires-2 t c κs = search needs
 
-search-at-returns-3 : (t : ℕ) → search-at-lts.Need-returns-3 (search-at-claims t) (search-at-at t) search-at.Post search-at-Inv-loop search-at-μ-loop
-search-at-returns-3 t c = reach-ended _ _ _ _ (c .before .before .before .before .before .before .before .before .before .before .before .before .before .args .q) _ (better-on (fills-meets _ _ _ _ (c .before .before .before .before .before .before .before .before .before .before .before .before .before .args .q) _ (c .before .before .before .before .before .before .before .before .before .before .before .before .before .pre .1 .0 .is-next) _ (c .before .before .before .before .before .before .before .before .before .filled .ensures)) (better-on (rw (c .before .before .before .before .before .before .before .before .untried .ensures) at (c .before .before .before .before .before .before .before .loop .inv .1 .0)) (owns-meets _ _ _ _ (c .before .before .before .before .before .before .before .before .before .before .before .before .before .args .q) _ (c .before .before .before .before .before .before .before .before .before .before .before .before .before .pre .1 .0 .is-next) _ (c .before .before .before .before .before .before .before .before .before .filled .ensures) ((rw (c .before .before .before .before .after .ensures) at (c .before .before .before .own-reached .ensures .0)) .better)))) (c .before .ended2 .ensures (c .if5 .taken))
+search-at-returns-4 : (t : ℕ) → search-at-lts.Need-returns-4 (search-at-claims t) (search-at-at t) search-at.Post search-at-Inv-loop search-at-μ-loop
+search-at-returns-4 t c = reach-ended _ _ _ _ (c .before .before .before .before .before .before .before .before .before .before .before .before .before .args .q) _ (better-on (fills-meets _ _ _ _ (c .before .before .before .before .before .before .before .before .before .before .before .before .before .args .q) _ (c .before .before .before .before .before .before .before .before .before .before .before .before .before .pre .1 .0 .is-next) _ (c .before .before .before .before .before .before .before .before .before .filled .ensures)) (better-on (rw (c .before .before .before .before .before .before .before .before .untried .ensures) at (c .before .before .before .before .before .before .before .loop .inv .1 .0)) (owns-meets _ _ _ _ (c .before .before .before .before .before .before .before .before .before .before .before .before .before .args .q) _ (c .before .before .before .before .before .before .before .before .before .before .before .before .before .pre .1 .0 .is-next) _ (c .before .before .before .before .before .before .before .before .before .filled .ensures) ((rw (c .before .before .before .before .after .ensures) at (c .before .before .before .own-reached .ensures .0)) .better)))) (c .before .ended2 .ensures (c .if7 .taken))
 
 search-at-after-requires-2 : (t : ℕ) → search-at-lts.Need-after-requires-2 (search-at-claims t) (search-at-at t) search-at.Post search-at-Inv-loop search-at-μ-loop
 search-at-after-requires-2 t c κs = search needs
@@ -595,8 +547,8 @@ search-at-asks-requires t c κs = c .before .before .before .before .before .bef
 search-at-and-requires : (t : ℕ) → search-at-lts.Need-and-requires (search-at-claims t) (search-at-at t) search-at.Post search-at-Inv-loop search-at-μ-loop
 search-at-and-requires t c κs = search needs
 
-search-at-returns-4 : (t : ℕ) → search-at-lts.Need-returns-4 (search-at-claims t) (search-at-at t) search-at.Post search-at-Inv-loop search-at-μ-loop
-search-at-returns-4 t c = reach-all _ _ _ _ (c .before .before .before .before .before .before .before .before .before .before .before .before .before .before .before .before .before .args .q) _ (c .before .before .before .before .before .before .before .before .before .before .before .before .before .before .before .before .before .pre .1 .0 .is-next) _ (c .before .before .before .before .before .before .before .before .before .before .before .before .before .filled .ensures) (c .before .before .before .before .before .before .before .before .before .before .before .before .before .before .before .before .before .pre .1 .1) (c .before .before .before .before .before .before .before .before .before .before .before .before .before .before .before .before .before .pre .1 .0 .ready .room) _ _ (rw (c .before .before .before .before .before .before .before .before .before .before .before .before .untried .ensures) at (c .before .before .before .before .before .before .before .before .before .before .before .loop .inv .1 .0)) (rw (c .before .before .before .before .before .before .before .before .before .before .before .before .untried .ensures) at (c .before .before .before .before .before .before .before .before .before .before .before .loop .inv .1 .1 .0)) (c .before .before .before .before .before .before .before .before .before .before .before .loop .inv .0) (c .before .before .before .before .before .before .before .before .before .before .loop-test .left) _ (rw (c .before .before .before .before .before .before .before .before .after .ensures) at (c .before .before .before .before .before .before .before .own-reached .ensures .0)) (c .before .before .before .before .before .before .before .own-reached .ensures .1) _ (c .before .before .after2 .ensures) _ (c .before .asks .ensures) _ (c .and .ensures)
+search-at-returns-5 : (t : ℕ) → search-at-lts.Need-returns-5 (search-at-claims t) (search-at-at t) search-at.Post search-at-Inv-loop search-at-μ-loop
+search-at-returns-5 t c = reach-all _ _ _ _ (c .before .before .before .before .before .before .before .before .before .before .before .before .before .before .before .before .before .args .q) _ (c .before .before .before .before .before .before .before .before .before .before .before .before .before .before .before .before .before .pre .1 .0 .is-next) _ (c .before .before .before .before .before .before .before .before .before .before .before .before .before .filled .ensures) (c .before .before .before .before .before .before .before .before .before .before .before .before .before .before .before .before .before .pre .1 .1) (c .before .before .before .before .before .before .before .before .before .before .before .before .before .before .before .before .before .pre .1 .0 .ready .room) _ _ (rw (c .before .before .before .before .before .before .before .before .before .before .before .before .untried .ensures) at (c .before .before .before .before .before .before .before .before .before .before .before .loop .inv .1 .0)) (rw (c .before .before .before .before .before .before .before .before .before .before .before .before .untried .ensures) at (c .before .before .before .before .before .before .before .before .before .before .before .loop .inv .1 .1 .0)) (c .before .before .before .before .before .before .before .before .before .before .before .loop .inv .0) (c .before .before .before .before .before .before .before .before .before .before .loop-test .left) _ (rw (c .before .before .before .before .before .before .before .before .after .ensures) at (c .before .before .before .before .before .before .before .own-reached .ensures .0)) (c .before .before .before .before .before .before .before .own-reached .ensures .1) _ (c .before .before .after2 .ensures) _ (c .before .asks .ensures) _ (c .and .ensures)
 
 search-runs-kept-requires : (t : ℕ) → search-runs-lts.Need-kept-requires (search-runs-claims t) (search-runs-at t) search-runs.Post
 search-runs-kept-requires t c κs = search needs
@@ -622,29 +574,11 @@ search-runs-search-at-requires t c κs = (omega (arith, c .before .before .befor
 search-runs-returns-3 : (t : ℕ) → search-runs-lts.Need-returns-3 (search-runs-claims t) (search-runs-at t) search-runs.Post
 search-runs-returns-3 t c = c .search-at .ensures
 
-search-runs-straight-requires : (t : ℕ) → search-runs-lts.Need-straight-requires (search-runs-claims t) (search-runs-at t) search-runs.Post
-search-runs-straight-requires t c κs = c .before .before .before .before .before .before .before .before .pre .1 .code-ok
-
-search-runs-both-ways-requires : (t : ℕ) → search-runs-lts.Need-both-ways-requires (search-runs-claims t) (search-runs-at t) search-runs.Post
-search-runs-both-ways-requires t c κs = (omega (arith, c .before .before .before .before .before .before .before .before .before .before .before .pre .0), (c .before .before .before .before .before .before .before .before .before .before .before .pre .1, (c .before .before .straight .ensures .0 .forks (c .if4 .taken), c .before .before .straight .ensures .1)))
+search-runs-walk-on-requires : (t : ℕ) → search-runs-lts.Need-walk-on-requires (search-runs-claims t) (search-runs-at t) search-runs.Post
+search-runs-walk-on-requires t c κs = (omega (arith, c .before .before .before .before .before .before .before .pre .0), (c .before .before .before .before .before .before .before .pre .1, (c .before .before .if2 .left, c .before .halts .ensures _ refl .1 (c .if3 .left))))
 
 search-runs-returns-4 : (t : ℕ) → search-runs-lts.Need-returns-4 (search-runs-claims t) (search-runs-at t) search-runs.Post
-search-runs-returns-4 t c = c .both-ways .ensures
-
-search-runs-search-runs-requires : (t : ℕ) → search-runs-lts.Need-search-runs-requires (search-runs-claims t) (search-runs-at t) search-runs.Post
-search-runs-search-runs-requires t c κs = let w = c .before .before .straight .ensures in let l = walked-further (w .1 .0) (w .0 .halts (c .if4 .left)) (c .before .before .before .before .before .halts .ensures _ refl .1 (c .before .before .before .before .if3 .left)) in let low = c .before .before .before .before .before .before .if2 .left in let short = c .before .before .before .before .before .before .before .before .before .before .before .pre .1 .code-ok .short in (omega (arith, c .before .before .before .before .before .before .before .before .before .before .before .pre .0), leads-ready (walked-leads (w .1 .0)) (c .before .before .before .before .before .before .before .before .before .before .before .pre .1))
-
-search-runs-ended-requires : (t : ℕ) → search-runs-lts.Need-ended-requires (search-runs-claims t) (search-runs-at t) search-runs.Post
-search-runs-ended-requires t c κs = search needs
-
-search-runs-returns-5 : (t : ℕ) → search-runs-lts.Need-returns-5 (search-runs-claims t) (search-runs-at t) search-runs.Post
-search-runs-returns-5 t c = straight-ended _ _ _ _ _ (walked-leads (c .before .before .before .before .before .before .straight .ensures .1 .0)) (c .before .before .before .before .before .before .before .before .before .before .before .before .before .before .before .args .q) _ (c .before .before .before .search-runs .ensures) (c .before .ended .ensures (c .if5 .taken))
-
-search-runs-before-straight-requires : (t : ℕ) → search-runs-lts.Need-before-straight-requires (search-runs-claims t) (search-runs-at t) search-runs.Post
-search-runs-before-straight-requires t c κs = c .before .before .before .before .before .before .before .straight .ensures .1 .1
-
-search-runs-returns-6 : (t : ℕ) → search-runs-lts.Need-returns-6 (search-runs-claims t) (search-runs-at t) search-runs.Post
-search-runs-returns-6 t c = straight-found _ _ _ _ _ (walked-leads (c .before .before .before .before .before .before .before .before .straight .ensures .1 .0)) (c .before .before .before .before .before .before .before .before .before .before .before .before .before .before .before .before .before .args .q) _ (c .before .before .before .before .before .search-runs .ensures) _ (λ s'. c .before-straight .ensures _ _ _ s' (c .before .before .before .before .before .before .before .before .straight .ensures .1 .0))
+search-runs-returns-4 t c = c .walk-on .ensures
 
 try-at-execute-requires : (t : ℕ) → try-at-lts.Need-execute-requires (try-at-claims t) (try-at-at t) try-at.Post
 try-at-execute-requires t c κs = let w = c .pre .1 .0 in (reach-byte _ _ _ _ w, w .ready .room)
@@ -668,61 +602,61 @@ try-at-emptied-requires : (t : ℕ) → try-at-lts.Need-emptied-requires (try-at
 try-at-emptied-requires t c κs = search needs
 
 try-at-returns-2 : (t : ℕ) → try-at-lts.Need-returns-2 (try-at-claims t) (try-at-at t) try-at.Post
-try-at-returns-2 t c =
-    let early = c .before .before .before .before in
-    went-found _ _ _ _ _ _ _ _ (early .before .before .before .before .before .pre .1 .1 .1) _ (ruled-done _ _ _ (early .before .before .before .before .execute .ensures) (early .before .before .enum-told .given .1)) (early .kept .ensures .0 (c .before .before .before .if1 .taken)) _ (rw (early .before .after .ensures) at (c .emptied .ensures))
+try-at-returns-2 t c = went-found _ _ _ _ _ _ _ _ (c .before .before .before .before .before .before .before .before .before .pre .1 .1 .1) _ (ruled-done _ _ _ (c .before .before .before .before .before .before .before .before .execute .ensures) (c .before .before .before .before .before .before .enum-told .given .1)) (c .before .before .before .before .kept .ensures .0 (c .before .before .before .if1 .taken)) _ (rw (c .before .before .before .before .before .after .ensures) at (c .emptied .ensures))
 
 try-at-idle-requires : (t : ℕ) → try-at-lts.Need-idle-requires (try-at-claims t) (try-at-at t) try-at.Post
 try-at-idle-requires t c κs = c .before .before .before .before .before .before .pre .1 .0 .ready .room
 
-try-at-lowered-requires : (t : ℕ) → try-at-lts.Need-lowered-requires (try-at-claims t) (try-at-at t) try-at.Post
-try-at-lowered-requires t c κs = search needs
+try-at-resumed-requires : (t : ℕ) → try-at-lts.Need-resumed-requires (try-at-claims t) (try-at-at t) try-at.Post
+try-at-resumed-requires t c κs = search needs
 
 try-at-search-runs-requires : (t : ℕ) → try-at-lts.Need-search-runs-requires (try-at-claims t) (try-at-at t) try-at.Post
-try-at-search-runs-requires t c κs = let d = ruled-done _ _ _ (c .before .before .before .before .before .before .before .before .execute .ensures) (c .before .before .before .before .before .before .enum-told .given .1) in let f = further-by _ _ _ _ (c .before .before .before .before .before .before .before .before .before .pre .1 .0) _ _ d in let at = ap (λ (v : Thread). v .position) (c .lowered .ensures) in (omega (arith, c .before .before .before .before .before .before .before .before .before .pre .0), ready-as (ready-after (c .before .before .before .before .before .before .before .before .before .pre .1 .0 .ready) (effect _ _ _ _ _ d)) (ap (λ (v : Thread). v .promises) (c .lowered .ensures)))
+try-at-search-runs-requires t c κs =
+    let w = c .before .before .before .before .before .before .before .before .pre .1 .0 in
+    let d = ruled-done _ _ _ (c .before .before .before .before .before .before .before .execute .ensures) (c .before .before .before .before .before .enum-told .given .1) in
+    let f = further-by _ _ _ _ w _ _ d in
+    let like = resumed-same _ _ _ (c .before .before .before .before .before .before .before .before .args .s) (c .resumed .ensures) in
+    let at = like .0 in
+    (omega (arith, c .before .before .before .before .before .before .before .before .pre .0), ready-as (ready-after (w .ready) (effect _ _ _ _ _ d)) (like .1))
 
 try-at-noted-requires : (t : ℕ) → try-at-lts.Need-noted-requires (try-at-claims t) (try-at-at t) try-at.Post
-try-at-noted-requires t c κs = c .before .before .before .before .before .before .before .before .before .before .pre .1 .1 .0
+try-at-noted-requires t c κs = c .before .before .before .before .before .before .before .before .before .pre .1 .1 .0
 
 try-at-returns-3 : (t : ℕ) → try-at-lts.Need-returns-3 (try-at-claims t) (try-at-at t) try-at.Post
-try-at-returns-3 t c = went-apart _ _ _ _ _ _ _ _ (c .before .before .before .before .before .before .before .before .before .before .before .pre .1 .1 .1) _ (ruled-done _ _ _ (c .before .before .before .before .before .before .before .before .before .before .execute .ensures) (c .before .before .before .before .before .before .before .before .enum-told .given .1)) (c .before .before .before .before .idle .ensures (c .before .before .before .if2 .taken)) _ (c .before .before .lowered .ensures) _ (rw (c .before .before .before .before .before .before .before .after .ensures) at (c .before .search-runs .ensures)) _ (c .noted .ensures)
+try-at-returns-3 t c = went-resumed _ _ _ _ _ _ _ _ (c .before .before .before .before .before .before .before .before .before .before .pre .1 .1 .1) _ (ruled-done _ _ _ (c .before .before .before .before .before .before .before .before .before .execute .ensures) (c .before .before .before .before .before .before .before .enum-told .given .1)) _ (c .before .before .before .idle .ensures) _ (c .before .before .resumed .ensures) _ (rw (c .before .before .before .before .before .before .after .ensures) at (c .before .search-runs .ensures)) _ (c .noted .ensures)
 
-try-at-search-runs-requires-2 : (t : ℕ) → try-at-lts.Need-search-runs-requires-2 (try-at-claims t) (try-at-at t) try-at.Post
-try-at-search-runs-requires-2 t c κs = let d = ruled-done _ _ _ (c .before .before .before .before .before .before .before .execute .ensures) (c .before .before .before .before .before .enum-told .given .1) in let f = further-by _ _ _ _ (c .before .before .before .before .before .before .before .before .pre .1 .0) _ _ d in (omega (arith, c .before .before .before .before .before .before .before .before .pre .0), ready-after (c .before .before .before .before .before .before .before .before .pre .1 .0 .ready) (effect _ _ _ _ _ d))
+walk-on-straight-requires : (t : ℕ) → walk-on-lts.Need-straight-requires (walk-on-claims t) (walk-on-at t) walk-on.Post
+walk-on-straight-requires t c κs = c .before .pre .1 .0 .code-ok
 
-try-at-noted-requires-2 : (t : ℕ) → try-at-lts.Need-noted-requires-2 (try-at-claims t) (try-at-at t) try-at.Post
-try-at-noted-requires-2 t c κs = c .before .before .before .before .before .before .before .before .before .pre .1 .1 .0
+walk-on-both-ways-requires : (t : ℕ) → walk-on-lts.Need-both-ways-requires (walk-on-claims t) (walk-on-at t) walk-on.Post
+walk-on-both-ways-requires t c κs = (omega (arith, c .before .before .before .before .pre .0), (c .before .before .before .before .pre .1 .0, (c .before .before .straight .ensures .0 .forks (c .if1 .taken), c .before .before .straight .ensures .1)))
 
-try-at-returns-4 : (t : ℕ) → try-at-lts.Need-returns-4 (try-at-claims t) (try-at-at t) try-at.Post
-try-at-returns-4 t c = went-on _ _ _ _ _ _ _ _ (c .before .before .before .before .before .before .before .before .before .before .pre .1 .1 .1) _ (ruled-done _ _ _ (c .before .before .before .before .before .before .before .before .before .execute .ensures) (c .before .before .before .before .before .before .before .enum-told .given .1)) _ (rw (c .before .before .before .before .before .before .after .ensures) at (c .before .search-runs2 .ensures)) _ (c .noted2 .ensures)
+walk-on-returns : (t : ℕ) → walk-on-lts.Need-returns (walk-on-claims t) (walk-on-at t) walk-on.Post
+walk-on-returns t c = c .both-ways .ensures
 
-pub +blind+both-ways+filled+keeps+own-reached+search-at+search-runs+try-at-spec : {M : Type 1} → statement M
-+blind+both-ways+filled+keeps+own-reached+search-at+search-runs+try-at-spec =
-    close μ-blind μ-both-ways μ-filled μ-keeps μ-own-reached μ-search-at μ-search-runs μ-try-at (λ t. blind-lts.spec (blind-claims t) (blind-at t)
-    blind.Post
-    (blind-fruitless-requires t)
-    (blind-returns t)
-    (blind-worth-asking-requires t)
-    (blind-unknown-requires t)
-    (blind-returns-2 t)
-    (blind-enum-known-x t)
-    (blind-unread-requires t)
-    (blind-search-runs-requires t)
-    (blind-told-requires t)
-    (blind-enum-told t)
-    (blind-unknown-requires-2 t)
-    (blind-enum-told-2 t)
-    (blind-unknown-requires-3 t)
-    (blind-enum-told-3 t)
-    (blind-unknown-requires-4 t)
-    (blind-enum-told-4 t)
-    (blind-unknown-requires-5 t)
-    (blind-returns-3 t)
-    (blind-returns-4 t)
-    (blind-returns-5 t)
-    (blind-returns-6 t)
-    (blind-returns-7 t))
-    (λ t. both-ways-lts.spec (both-ways-claims t) (both-ways-at t)
+walk-on-search-runs-requires : (t : ℕ) → walk-on-lts.Need-search-runs-requires (walk-on-claims t) (walk-on-at t) walk-on.Post
+walk-on-search-runs-requires t c κs =
+    let w = c .before .before .straight .ensures in
+    let l = walked-further (w .1 .0) (w .0 .halts (c .if1 .left)) (c .before .before .before .before .pre .1 .1 .1) in
+    let low = c .before .before .before .before .pre .1 .1 .0 in
+    let short = c .before .before .before .before .pre .1 .0 .code-ok .short in
+    (omega (arith, c .before .before .before .before .pre .0), leads-ready (walked-leads (w .1 .0)) (c .before .before .before .before .pre .1 .0))
+
+walk-on-ended-requires : (t : ℕ) → walk-on-lts.Need-ended-requires (walk-on-claims t) (walk-on-at t) walk-on.Post
+walk-on-ended-requires t c κs = search needs
+
+walk-on-returns-2 : (t : ℕ) → walk-on-lts.Need-returns-2 (walk-on-claims t) (walk-on-at t) walk-on.Post
+walk-on-returns-2 t c = straight-ended _ _ _ _ _ (walked-leads (c .before .before .before .before .before .before .straight .ensures .1 .0)) (c .before .before .before .before .before .before .before .before .args .q) _ (c .before .before .before .search-runs .ensures) (c .before .ended .ensures (c .if2 .taken))
+
+walk-on-before-straight-requires : (t : ℕ) → walk-on-lts.Need-before-straight-requires (walk-on-claims t) (walk-on-at t) walk-on.Post
+walk-on-before-straight-requires t c κs = c .before .before .before .before .before .before .before .straight .ensures .1 .1
+
+walk-on-returns-3 : (t : ℕ) → walk-on-lts.Need-returns-3 (walk-on-claims t) (walk-on-at t) walk-on.Post
+walk-on-returns-3 t c = straight-found _ _ _ _ _ (walked-leads (c .before .before .before .before .before .before .before .before .straight .ensures .1 .0)) (c .before .before .before .before .before .before .before .before .before .before .args .q) _ (c .before .before .before .before .before .search-runs .ensures) _ (λ s'. c .before-straight .ensures _ _ _ s' (c .before .before .before .before .before .before .before .before .straight .ensures .1 .0))
+
+pub +both-ways+filled+keeps+own-reached+search-at+search-runs+try-at+walk-on-spec : {M : Type 1} → statement M
++both-ways+filled+keeps+own-reached+search-at+search-runs+try-at+walk-on-spec =
+    close μ-both-ways μ-filled μ-keeps μ-own-reached μ-search-at μ-search-runs μ-try-at μ-walk-on (λ t. both-ways-lts.spec (both-ways-claims t) (both-ways-at t)
     both-ways.Post
     (both-ways-search-runs-requires t)
     (both-ways-ended-requires t)
@@ -781,36 +715,39 @@ pub +blind+both-ways+filled+keeps+own-reached+search-at+search-runs+try-at-spec 
     own-reached.Post
     (own-reached-returns t)
     (own-reached-enum-known-x t)
-    (own-reached-barring-requires t)
-    (own-reached-noting-requires t)
-    (own-reached-noting-requires-2 t)
     (own-reached-own-store-requires t)
     (own-reached-enum-told t)
     (own-reached-enum-told-2 t)
+    (own-reached-own-asks-requires t)
     (own-reached-returns-2 t)
     (own-reached-own-message-requires t)
     (own-reached-append-requires t)
     (own-reached-search-runs-requires t)
     (own-reached-loads-ahead-requires t)
+    (own-reached-own-asks-requires-2 t)
     (own-reached-and-requires t)
-    (own-reached-returns-3 t)
-    (own-reached-and-requires-2 t)
     (own-reached-enum-told-3 t)
     (own-reached-enum-told-4 t)
     (own-reached-enum-told-5 t)
     (own-reached-enum-told-6 t)
+    (own-reached-returns-3 t)
     (own-reached-returns-4 t)
     (own-reached-returns-5 t)
     (own-reached-returns-6 t)
-    (own-reached-returns-7 t)
-    (own-reached-returns-8 t))
+    (own-reached-returns-7 t))
     (λ t. search-at-lts.spec (search-at-claims t) (search-at-at t)
     search-at.Post
     search-at-Inv-loop
     search-at-μ-loop
     (search-at-worth-a-look-requires t)
-    (search-at-blind-requires t)
+    (search-at-foreseen-requires t)
     (search-at-returns t)
+    (search-at-worth-asking-requires t)
+    (search-at-enum-known-load t)
+    (search-at-unread-requires t)
+    (search-at-search-runs-requires t)
+    (search-at-told-requires t)
+    (search-at-returns-2 t)
     (search-at-earliest-requires t)
     (search-at-filled-requires t)
     (search-at-untried-requires t)
@@ -818,7 +755,7 @@ pub +blind+both-ways+filled+keeps+own-reached+search-at+search-runs+try-at-spec 
     (search-at-hopeless-requires t)
     (search-at-try-at-requires t)
     (search-at-ended-requires t)
-    (search-at-returns-2 t)
+    (search-at-returns-3 t)
     (search-at-following-requires t)
     (search-at-loop-less t)
     (search-at-loop-again t)
@@ -826,11 +763,11 @@ pub +blind+both-ways+filled+keeps+own-reached+search-at+search-runs+try-at-spec 
     (search-at-after-requires t)
     (search-at-own-reached-requires t)
     (search-at-ended-requires-2 t)
-    (search-at-returns-3 t)
+    (search-at-returns-4 t)
     (search-at-after-requires-2 t)
     (search-at-asks-requires t)
     (search-at-and-requires t)
-    (search-at-returns-4 t))
+    (search-at-returns-5 t))
     (λ t. search-runs-lts.spec (search-runs-claims t) (search-runs-at t)
     search-runs.Post
     (search-runs-kept-requires t)
@@ -841,15 +778,9 @@ pub +blind+both-ways+filled+keeps+own-reached+search-at+search-runs+try-at-spec 
     (search-runs-instr-at-requires t)
     (search-runs-search-at-requires t)
     (search-runs-returns-3 t)
-    (search-runs-straight-requires t)
-    (search-runs-both-ways-requires t)
-    (search-runs-returns-4 t)
-    (search-runs-search-runs-requires t)
-    (search-runs-ended-requires t)
-    (search-runs-returns-5 t)
-    (search-runs-before-straight-requires t)
-    (search-runs-returns-6 t))
-    λ t. try-at-lts.spec (try-at-claims t) (try-at-at t)
+    (search-runs-walk-on-requires t)
+    (search-runs-returns-4 t))
+    (λ t. try-at-lts.spec (try-at-claims t) (try-at-at t)
     try-at.Post
     (try-at-execute-requires t)
     (try-at-enum-told t)
@@ -860,10 +791,17 @@ pub +blind+both-ways+filled+keeps+own-reached+search-at+search-runs+try-at-spec 
     (try-at-emptied-requires t)
     (try-at-returns-2 t)
     (try-at-idle-requires t)
-    (try-at-lowered-requires t)
+    (try-at-resumed-requires t)
     (try-at-search-runs-requires t)
     (try-at-noted-requires t)
-    (try-at-returns-3 t)
-    (try-at-search-runs-requires-2 t)
-    (try-at-noted-requires-2 t)
-    (try-at-returns-4 t)
+    (try-at-returns-3 t))
+    λ t. walk-on-lts.spec (walk-on-claims t) (walk-on-at t)
+    walk-on.Post
+    (walk-on-straight-requires t)
+    (walk-on-both-ways-requires t)
+    (walk-on-returns t)
+    (walk-on-search-runs-requires t)
+    (walk-on-ended-requires t)
+    (walk-on-returns-2 t)
+    (walk-on-before-straight-requires t)
+    (walk-on-returns-3 t)
