@@ -5,12 +5,11 @@ use mathlib.Core.Logic.{_⊎_, inl, inr, ⊎-elim}
 use mathlib.Core.Bool.{Bool, true, false, not}
 use mathlib.Core.List.{List}
 use mathlib.Core.Option.{some}
-use Prim.Native.Nat.{ℕ, _+_, _-_, _*_, _<_}
+use Prim.Native.Nat.{ℕ, _+_, _-_, _<_}
+use native.Mathlib.Decide.{ℕ-discrete}
 use native.Mathlib.Omega.{arith}
 use lib.Dec.{eqb}
 use Rattle.program.specs.Program.{instrAt}
-use Rattle.program.proofs.Counts.{there}
-use Rattle.program.specs.Inner.{CodeOk}
 use Rattle.machine.specs.Rules.{valueOf, branchBy, branchDone}
 use Rattle.machine.proofs.Effects.{branch-moves}
 use Rattle.certify_runs.specs.Below.{Code, Branch, Memory, Thread}
@@ -19,8 +18,8 @@ use Rattle.certify_cares.specs.declared.Cares.{Cares}
 use Rattle.certify_under.specs.Threads.{atPosition}
 use Rattle.certify_under.specs.Under.{Rests}
 use Rattle.certify_under.proofs.Resting.{branch-rests, other-rests}
-use Rattle.certify_straight.specs.Straight.{Step, Leads, here, on, Forked}
-use Rattle.certify_straight.proofs.Plain.{leads-further, walked-leads, plain-branch}
+use Rattle.certify_straight.specs.Straight.{Step, Leads, here, on, Halts, Walked, Forked, Ended}
+use Rattle.certify_straight.proofs.Plain.{leads-further, walked-leads, walked-further, plain-branch}
 use Rattle.certify_sought.specs.declared.Met.{Met}
 use Rattle.certify_sought.specs.declared.Sought.{Sought}
 use Rattle.certify_sought.specs.Numbers.{Unmet}
@@ -40,25 +39,16 @@ same-or-not false false = inl refl
 
 module _ (c : Code) (s y : Thread) (steps : List Step) (count o : ℕ) (f : Forked c s steps count y o) where
   -- both ways lead further, so the search ends
-  fork-low : CodeOk c → s .position < 20
-  fork-low ok =
-      let l = there c (f .before .position) (Branch (f .over) (f .a) (f .b)) (f .is-next) .0 in
+  fork-this : s .position < y .position
+  fork-this =
       let h = leads-further (walked-leads (f .walked)) in
-      let short = ok .short in
-      omega arith
-
-  pub fork-this : CodeOk c → 5 * (20 - y .position) + 4 < 5 * (20 - s .position) + 3
-  fork-this ok =
-      let h = leads-further (walked-leads (f .walked)) in
-      let low = fork-low ok in
       let e = ap (λ (v : Thread). v .position) (f .after) in
       let g = branch-moves (eqb (valueOf (f .before) (f .a)) (valueOf (f .before) (f .b))) (f .over) in
       omega arith
 
-  pub fork-other : CodeOk c → 5 * (20 - o) + 4 < 5 * (20 - s .position) + 3
-  fork-other ok =
+  pub fork-other : s .position < o
+  fork-other =
       let h = leads-further (walked-leads (f .walked)) in
-      let low = fork-low ok in
       let e = f .other-way in
       let g = branch-moves (not (eqb (valueOf (f .before) (f .a)) (valueOf (f .before) (f .b)))) (f .over) in
       omega arith
@@ -95,3 +85,10 @@ module _ (c : Code) (s y : Thread) (steps : List Step) (count o : ℕ) (f : Fork
               let y' = branchDone (f .over) (f .a) (f .b) v in
               past v (b .1 .1) j u (leads-back (on (Branch (f .over) (f .a) (f .b)) y' at (plain-branch _ v y' refl refl) here) i (q .hole) j (leads-back (b .1 .0) i (q .hole) j w));
         }
+
+-- a walk leads further, whether it ends at a load or store or after a branch
+pub ended-further : {c : Code} {s y : Thread} {steps : List Step} {count o : ℕ} → Ended c s steps count y o → Walked c s steps count y → (Halts c s → ⊥) → s .position < y .position
+ended-further {c = c} {s = s} {y = y} {steps = steps} {count = count} {o = o} e w n = elim (ℕ-discrete o 0) [
+  | yes z ↦ walked-further w (e .halts z) n
+  | no z ↦ fork-this c s y steps count o (e .forks z)
+]

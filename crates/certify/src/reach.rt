@@ -4,7 +4,7 @@ ghost use mathlib.Core.Bool.{true, false};
 ghost use Prim.Native.Nat.{ℕ, _≤_, _<_};
 ghost use Rattle.certify_runs.specs.Inner.{Ready, Trying};
 ghost use Rattle.certify_cares.specs.Cares.{Covers};
-ghost use Rattle.certify_straight.specs.Straight.{Halts, Forked, Walked};
+ghost use Rattle.certify_straight.specs.Straight.{Halts};
 ghost use Rattle.certify_sought.specs.Asks.{Stores};
 ghost use Rattle.certify_sought.specs.Aim.{Meets};
 ghost use Rattle.certify_sought.specs.Numbers.{Twice};
@@ -22,7 +22,6 @@ use certify_sought::asks::own_asks;
 use certify_sought::goal::emptied;
 use certify_sought::goal::fill;
 use certify_sought::goal::kept;
-use certify_straight::Walk;
 use certify_straight::at_position;
 use certify_straight::before_straight;
 use certify_straight::halts;
@@ -82,25 +81,57 @@ pub fn search_runs(c: Code, i: u8, m: Memory, s: Thread, q: Sought) -> Reached
     if halts(c, s.position) {
         return search_at(c, i, m, s, c.instr_at(s.position), q);
     }
+    if 12 <= m.count {
+        return both_ways(c, i, m, s, q);
+    }
     walk_on(c, i, m, s, q)
 }
 
-// The same for a thread at an instruction that has one way to go on. With many messages about, branches are looked at both ways. It is a
-// function of its own so that the walk shares its place on the stack with the tries of loads and stores.
+// The same for a thread at an instruction that has one way to go on. It is a function of its own so that the walk shares its place on the stack
+// with the tries of loads and stores.
 fn walk_on(c: Code, i: u8, m: Memory, s: Thread, q: Sought) -> Reached
     requires { ⌜ Ready c m s × ((s .position < c .count) × (Halts c s → ⊥)) ⌝ }
     ensures { λ r. ⌜ Found (q .from) (q .met) (λ y k. Meets c i m y (q .hole) k) s r ⌝ }
 {
-    let w = straight(c, s, 12 <= m.count);
-    if w.other != 0 {
-        return both_ways(c, i, m, s, w, q);
-    }
+    let w = straight(c, s, false);
     let r = search_runs(c, i, m, w.thread, q);
     let met = r.met;
     if met.ended(q.from) {
         return r;
     }
     let rests = r.cares;
+    Reached {
+        met: met,
+        cares: before_straight(w, w.count, rests),
+    }
+}
+
+// The same with many messages about, when it stops after a branch that compares what was read. If the other way has no number either that is
+// sought, it does not count which way the thread goes, so that the loads that the branch looks at need not be tried with each value. Where the
+// register counts anyway whose value would be held fast, that would spare nothing.
+fn both_ways(c: Code, i: u8, m: Memory, s: Thread, q: Sought) -> Reached
+    requires { ⌜ Ready c m s × ((s .position < c .count) × (Halts c s → ⊥)) ⌝ }
+    ensures { λ r. ⌜ Found (q .from) (q .met) (λ y k. Meets c i m y (q .hole) k) s r ⌝ }
+{
+    let w = straight(c, s, true);
+    let r = search_runs(c, i, m, w.thread, q);
+    let met = r.met;
+    if met.ended(q.from) {
+        return r;
+    }
+    let rests = r.cares;
+    if w.other != 0 {
+        if rests.of_register(w.held) == 0 {
+            let o = search_runs(c, i, m, at_position(w.thread, w.other), q.after(met));
+            let others = o.cares;
+            if met.is(o.met) {
+                return Reached {
+                    met: met,
+                    cares: before_straight(w, w.count - 1, rests.and(others)),
+                };
+            }
+        }
+    }
     Reached {
         met: met,
         cares: before_straight(w, w.count, rests),
@@ -122,39 +153,6 @@ fn foreseen(c: Code, m: Memory, s: Thread, q: Sought) -> Blind
             met: met,
             cares: rests,
         },
-    }
-}
-
-// The same for a thread that has gone over a branch. If the other way has no number either that is sought, it does not count which way it
-// goes, so that the loads that it looks at need not be tried with each value. Where the register counts anyway whose value would be held fast,
-// that would spare nothing.
-fn both_ways(c: Code, i: u8, m: Memory, s: Thread, w: Walk, q: Sought) -> Reached
-    requires { ⌜ Ready c m s × (Forked c s (w .steps) (w .count) (w .thread) (w .other) × (Walked c s (w .steps) (w .count) (w .thread) × (w .count ≤ 16))) ⌝ }
-    ensures { λ r. ⌜ Found (q .from) (q .met) (λ y k. Meets c i m y (q .hole) k) s r ⌝ }
-{
-    let r = search_runs(c, i, m, w.thread, q);
-    let met = r.met;
-    if met.ended(q.from) {
-        return r;
-    }
-    let rests = r.cares;
-    if rests.of_register(w.held()) != 0 {
-        return Reached {
-            met: met,
-            cares: before_straight(w, w.count, rests),
-        };
-    }
-    let o = search_runs(c, i, m, at_position(w.thread, w.other), q.after(met));
-    let others = o.cares;
-    if met.is(o.met) {
-        return Reached {
-            met: met,
-            cares: before_straight(w, w.count - 1, rests.and(others)),
-        };
-    }
-    Reached {
-        met: met,
-        cares: before_straight(w, w.count, rests),
     }
 }
 

@@ -25,26 +25,13 @@ use program::Code;
 use program::Instruction;
 
 // Where a thread has come to, and the instructions that it has gone through, in order. Where the last of them is a branch to be looked at both
-// ways, the position to which it leads on the other way; else 0.
+// ways, the position to which it leads on the other way, and the register that it would hold fast; else 0.
 pub struct Walk {
     pub thread: Thread,
     pub steps: [Step; 16],
     pub count: usize,
     pub other: u8,
-}
-
-impl Walk {
-    // The register that the last step, if it is a branch, would hold fast: the one that was read earlier.
-    pub fn held(self) -> u8
-        requires { ⌜ (0 < self .count) × (self .count ≤ 16) ⌝ }
-    {
-        let e = self.steps[self.count - 1];
-        if e.earlier {
-            e.instruction.n1
-        } else {
-            e.instruction.n2
-        }
-    }
+    pub held: u8,
 }
 
 // What the operand (k, n) holds, and its view. Lent is what register n modulo 8 holds, so that the registers are not copied.
@@ -109,6 +96,11 @@ fn open(i: Instruction, a: Register, b: Register) -> bool {
     (i.m != 0) & (i.k1 != 0) & (i.k2 != 0) & (i.n1 != i.n2) & ((a.view != 0) | (b.view != 0))
 }
 
+// The register that a branch would hold fast: the one that was read earlier.
+fn earlier(i: Instruction, a: Register, b: Register) -> u8 {
+    if a.view <= b.view { i.n1 } else { i.n2 }
+}
+
 // What a fence of mode m makes of the views.
 fn fenced(m: u8, w: Views) -> Views
     ensures { λ r. ⌜ r ≡ fenceViews (fenceMode m) w ⌝ }
@@ -170,6 +162,7 @@ pub fn straight(c: Code, s: Thread, both_ways: bool) -> Walk
                 steps: steps,
                 count: count,
                 other: 0,
+                held: 0,
             };
         }
         let a = operand_in(i.k1, i.n1, registers[(i.n1 % 8) as usize]);
@@ -190,6 +183,7 @@ pub fn straight(c: Code, s: Thread, both_ways: bool) -> Walk
                     steps: steps,
                     count: count,
                     other: n + (i.m + 2 - by),
+                    held: earlier(i, a, b),
                 };
             }
             n += by;
@@ -203,6 +197,7 @@ pub fn straight(c: Code, s: Thread, both_ways: bool) -> Walk
         steps: steps,
         count: count,
         other: 0,
+        held: 0,
     }
 }
 

@@ -143,10 +143,13 @@ sub-t50 c = let p = c .before .before .before .before .before .before .passed .e
 add-t51 : tie.Need-add-t51 Inv-loop μ-loop
 add-t51 c = let h = turn-lands (turn-at (c .before .before .before .before .before .before .before .before .before .before .before)) (c .before .before .before .before .before .before .before .before .before .before .before .before .before .before .before .before .before .before .before .before .before .before .before .before .before .before .before .pre) (c .before .before .before .before .before .before .before .if4 .taken) in let p = c .before .before .before .before .before .before .passed .ensures .1 .1 in omega arith
 
+earlier-requires : tie.Need-earlier-requires Inv-loop μ-loop
+earlier-requires c κs = tt
+
 returns-2 : tie.Need-returns-2 Inv-loop μ-loop
 returns-2 c =
-    let early = c .before .before .before .before in
-    turn-fork (turn-at (early .before .before .before .before .before .before .before)) (early .before .before .before .if4 .taken) _ (early .before .before .passed .ensures .1 .0) (early .before .before .passed .ensures .0) _ (rw (early .raise-cap .ensures, early .before .larger .ensures) refl) (early .before .before .passed .ensures .1 .1) _ (c .before .standing2 .ensures) _ refl
+    let early = c .before .before .before .before .before in
+    turn-fork (turn-at (early .before .before .before .before .before .before .before)) (early .before .before .before .if4 .taken) _ (early .before .before .passed .ensures .1 .0) (early .before .before .passed .ensures .0) _ (rw (early .raise-cap .ensures, early .before .larger .ensures) refl) (early .before .before .passed .ensures .1 .1) _ (c .before .before .standing2 .ensures) _ refl
 
 add-n-2 : tie.Need-add-n-2 Inv-loop μ-loop
 add-n-2 c = let h = turn-lands (turn-at (c .before .before .before .before .before .before .before .before .before)) (c .before .before .before .before .before .before .before .before .before .before .before .before .before .before .before .before .before .before .before .before .before .before .before .before .before .pre) (c .before .before .before .before .before .if4 .taken) in let p = c .before .before .before .before .passed .ensures .1 .1 in omega arith
@@ -222,6 +225,7 @@ straight-spec =
     add-t49
     sub-t50
     add-t51
+    earlier-requires
     returns-2
     add-n-2
     loop-less-3

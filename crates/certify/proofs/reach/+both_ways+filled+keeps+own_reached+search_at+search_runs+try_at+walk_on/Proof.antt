@@ -20,14 +20,14 @@ use Rattle.certify_sought.specs.Aim.{Meets}
 use Rattle.certify.specs.Search.{Missed, Went}
 use Rattle.certify_straight.specs.Straight.{here}
 use Rattle.certify_runs.proofs.Ready.{ready-after, ready-as, ready-own, reach-byte}
-use Rattle.certify_straight.proofs.Plain.{leads-ready, walked-leads, walked-further}
+use Rattle.certify_straight.proofs.Plain.{leads-ready, walked-leads}
 use Rattle.certify_sought.proofs.Numbers.{better-on}
 use Rattle.certify.proofs.Finding.{covers-self, covers-on}
 use Rattle.certify.proofs.Filling.{fill-no-hole, fill-none, fill-unsought, fill-here, fill-fails, alone-kept, alone-lost, hole-time, trying-filled, keeps-refused, keeps-done}
 use Rattle.certify.proofs.Missing.{knows-none, missed-none, missed-on, went-refused, went-hopeless, went-found, went-resumed, resumed-same}
 use Rattle.certify.proofs.Owning.{owns-none, owns-untried, owns-stuck, owns-on}
 use Rattle.certify.proofs.Blind.{blind-found}
-use Rattle.certify.proofs.Forking.{fork-this, fork-other, both-found}
+use Rattle.certify.proofs.Forking.{fork-other, both-found, ended-further}
 use Rattle.certify.proofs.Reaching.{reach-end, reach-ended, fills-meets, tried-meets, owns-meets, reach-all, straight-kept, straight-ended, straight-found, further-by, further-own}
 use Prim.Native.Nat.{ℕ, _<_}
 use borrow.Fn.Kinds.{In}
@@ -81,7 +81,6 @@ use Rattle.certify_tried.proofs.hopeless.Reads as hopeless-reads
 use Rattle.certify_sought.proofs.goal.kept.Reads as kept-reads
 use Rattle.certify_tried.proofs.noted.Reads as noted-reads
 use Rattle.certify_tried.proofs.untried.Reads as untried-reads
-use Rattle.certify_straight.proofs.Walk.held.Reads as held-reads
 use Rattle.certify_straight.proofs.before_straight.Reads as before-straight-reads
 use Rattle.certify_straight.proofs.halts.Reads as halts-reads
 use Rattle.certify_straight.proofs.straight.Reads as straight-reads
@@ -183,7 +182,7 @@ abbrev walk-on-below : ℕ → In 0 walk-on-kinds.ps
 walk-on-below t = and 0 walk-on-kinds.ps (falls 0 walk-on-kinds.ps _<_ μ-walk-on t) walk-on.Pre
 
 abbrev both-ways-claims : ℕ → both-ways-lts.Claims
-both-ways-claims t = (search-runs-below t, search-runs.Post, ended-reads.Asked, ended-reads.Learnt, held-reads.Asked, held-reads.Learnt, of-register-reads.Asked, of-register-reads.Learnt, before-straight-reads.Asked, before-straight-reads.Learnt, at-position-reads.Asked, at-position-reads.Learnt, after-reads.Asked, after-reads.Learnt, is-reads.Asked, is-reads.Learnt, and-reads.Asked, and-reads.Learnt)
+both-ways-claims t = (straight-reads.Asked, straight-reads.Learnt, search-runs-below t, search-runs.Post, ended-reads.Asked, ended-reads.Learnt, of-register-reads.Asked, of-register-reads.Learnt, at-position-reads.Asked, at-position-reads.Learnt, after-reads.Asked, after-reads.Learnt, is-reads.Asked, is-reads.Learnt, and-reads.Asked, and-reads.Learnt, before-straight-reads.Asked, before-straight-reads.Learnt)
 
 abbrev filled-claims : ℕ → filled-lts.Claims
 filled-claims t = (has-reads.Asked, has-reads.Learnt, own-message-reads.Asked, own-message-reads.Learnt, number-of-reads.Asked, number-of-reads.Learnt, seeks-reads.Asked, seeks-reads.Learnt, with-reads.Asked, with-reads.Learnt, view-of-reads.Asked, view-of-reads.Learnt, below-time-reads.Asked, below-time-reads.Learnt, fill-reads.Asked, fill-reads.Learnt, keeps-below t, keeps.Post)
@@ -198,36 +197,33 @@ abbrev search-at-claims : ℕ → search-at-lts.Claims
 search-at-claims t = (worth-a-look-reads.Asked, worth-a-look-reads.Learnt, foreseen-reads.Asked, foreseen-reads.Learnt, worth-asking-reads.Asked, worth-asking-reads.Learnt, unread-reads.Asked, unread-reads.Learnt, search-runs-below t, search-runs.Post, told-reads.Asked, told-reads.Learnt, earliest-reads.Asked, earliest-reads.Learnt, filled-below t, filled.Post, untried-reads.Asked, untried-reads.Learnt, hopeless-reads.Asked, hopeless-reads.Learnt, try-at-below t, try-at.Post, ended-reads.Asked, ended-reads.Learnt, following-reads.Asked, following-reads.Learnt, appends-reads.Asked, appends-reads.Learnt, after-reads.Asked, after-reads.Learnt, own-reached-below t, own-reached.Post, asks-reads.Asked, asks-reads.Learnt, and-reads.Asked, and-reads.Learnt)
 
 abbrev search-runs-claims : ℕ → search-runs-lts.Claims
-search-runs-claims t = (kept-reads.Asked, kept-reads.Learnt, emptied-reads.Asked, emptied-reads.Learnt, halts-reads.Asked, halts-reads.Learnt, instr-at-reads.Asked, instr-at-reads.Learnt, search-at-below t, search-at.Post, walk-on-below t, walk-on.Post)
+search-runs-claims t = (kept-reads.Asked, kept-reads.Learnt, emptied-reads.Asked, emptied-reads.Learnt, halts-reads.Asked, halts-reads.Learnt, instr-at-reads.Asked, instr-at-reads.Learnt, search-at-below t, search-at.Post, both-ways-below t, both-ways.Post, walk-on-below t, walk-on.Post)
 
 abbrev try-at-claims : ℕ → try-at-lts.Claims
 try-at-claims t = (execute-reads.Asked, execute-reads.Learnt, after-reads.Asked, after-reads.Learnt, kept-reads.Asked, kept-reads.Learnt, emptied-reads.Asked, emptied-reads.Learnt, idle-reads.Asked, idle-reads.Learnt, resumed-reads.Asked, resumed-reads.Learnt, search-runs-below t, search-runs.Post, noted-reads.Asked, noted-reads.Learnt)
 
 abbrev walk-on-claims : ℕ → walk-on-lts.Claims
-walk-on-claims t = (straight-reads.Asked, straight-reads.Learnt, both-ways-below t, both-ways.Post, search-runs-below t, search-runs.Post, ended-reads.Asked, ended-reads.Learnt, before-straight-reads.Asked, before-straight-reads.Learnt)
+walk-on-claims t = (straight-reads.Asked, straight-reads.Learnt, search-runs-below t, search-runs.Post, ended-reads.Asked, ended-reads.Learnt, before-straight-reads.Asked, before-straight-reads.Learnt)
+
+both-ways-straight-requires : (t : ℕ) → both-ways-lts.Need-straight-requires (both-ways-claims t) (both-ways-at t) both-ways.Post
+both-ways-straight-requires t c κs = c .pre .1 .0 .code-ok
 
 both-ways-search-runs-requires : (t : ℕ) → both-ways-lts.Need-search-runs-requires (both-ways-claims t) (both-ways-at t) both-ways.Post
-both-ways-search-runs-requires t c κs = let f = c .pre .1 .1 .0 in let w = c .pre .1 .0 in let l = fork-this _ _ _ _ _ _ f (w .code-ok) in (omega (arith, c .pre .0), leads-ready (walked-leads (c .pre .1 .1 .1 .0)) w)
+both-ways-search-runs-requires t c κs =
+    let w = c .straight .ensures in
+    let l = ended-further (w .0) (w .1 .0) (c .before .pre .1 .1 .1) in
+    let low = c .before .pre .1 .1 .0 in
+    let short = c .before .pre .1 .0 .code-ok .short in
+    (omega (arith, c .before .pre .0), leads-ready (walked-leads (w .1 .0)) (c .before .pre .1 .0))
 
 both-ways-ended-requires : (t : ℕ) → both-ways-lts.Need-ended-requires (both-ways-claims t) (both-ways-at t) both-ways.Post
 both-ways-ended-requires t c κs = search needs
 
 both-ways-returns : (t : ℕ) → both-ways-lts.Need-returns (both-ways-claims t) (both-ways-at t) both-ways.Post
-both-ways-returns t c = straight-ended _ _ _ _ _ (walked-leads (c .before .before .before .before .pre .1 .1 .1 .0)) (c .before .before .before .before .args .q) _ (c .before .before .before .search-runs .ensures) (c .before .ended .ensures (c .if1 .taken))
-
-both-ways-held-requires : (t : ℕ) → both-ways-lts.Need-held-requires (both-ways-claims t) (both-ways-at t) both-ways.Post
-both-ways-held-requires t c κs =
-    let early = c .before .before .before .before .before in
-    (early .pre .1 .1 .0 .some-step, early .pre .1 .1 .1 .1)
+both-ways-returns t c = straight-ended _ _ _ _ _ (walked-leads (c .before .before .before .before .straight .ensures .1 .0)) (c .before .before .before .before .before .args .q) _ (c .before .before .before .search-runs .ensures) (c .before .ended .ensures (c .if1 .taken))
 
 both-ways-of-register-requires : (t : ℕ) → both-ways-lts.Need-of-register-requires (both-ways-claims t) (both-ways-at t) both-ways.Post
 both-ways-of-register-requires t c κs = search needs
-
-both-ways-before-straight-requires : (t : ℕ) → both-ways-lts.Need-before-straight-requires (both-ways-claims t) (both-ways-at t) both-ways.Post
-both-ways-before-straight-requires t c κs = c .before .before .before .before .before .before .before .before .pre .1 .1 .1 .1
-
-both-ways-returns-2 : (t : ℕ) → both-ways-lts.Need-returns-2 (both-ways-claims t) (both-ways-at t) both-ways.Post
-both-ways-returns-2 t c = straight-found _ _ _ _ _ (walked-leads (c .before .before .before .before .before .before .before .before .before .pre .1 .1 .1 .0)) (c .before .before .before .before .before .before .before .before .before .args .q) _ (c .before .before .before .before .before .before .before .before .search-runs .ensures) _ (λ s'. c .before-straight .ensures _ _ _ s' (c .before .before .before .before .before .before .before .before .before .pre .1 .1 .1 .0))
 
 both-ways-at-position-requires : (t : ℕ) → both-ways-lts.Need-at-position-requires (both-ways-claims t) (both-ways-at t) both-ways.Post
 both-ways-at-position-requires t c κs = search needs
@@ -236,28 +232,37 @@ both-ways-after-requires : (t : ℕ) → both-ways-lts.Need-after-requires (both
 both-ways-after-requires t c κs = search needs
 
 both-ways-search-runs-requires-2 : (t : ℕ) → both-ways-lts.Need-search-runs-requires-2 (both-ways-claims t) (both-ways-at t) both-ways.Post
-both-ways-search-runs-requires-2 t c κs = let f = c .before .before .before .before .before .before .before .before .before .before .pre .1 .1 .0 in let w = c .before .before .before .before .before .before .before .before .before .before .pre .1 .0 in let l = fork-other _ _ _ _ _ _ f (w .code-ok) in let at = ap (λ (v : Thread). v .position) (c .before .at-position .ensures) in (omega (arith, c .before .before .before .before .before .before .before .before .before .before .pre .0), ready-as (leads-ready (walked-leads (c .before .before .before .before .before .before .before .before .before .before .pre .1 .1 .1 .0)) w) (ap (λ (v : Thread). v .promises) (c .before .at-position .ensures)))
+both-ways-search-runs-requires-2 t c κs =
+    let w = c .before .before .before .before .before .before .before .before .before .before .before .straight .ensures in
+    let l = fork-other _ _ _ _ _ _ (w .0 .forks (c .before .before .before .before .if2 .taken)) in
+    let low = c .before .before .before .before .before .before .before .before .before .before .before .before .pre .1 .1 .0 in
+    let short = c .before .before .before .before .before .before .before .before .before .before .before .before .pre .1 .0 .code-ok .short in
+    let at = ap (λ (v : Thread). v .position) (c .before .at-position .ensures) in
+    (omega (arith, c .before .before .before .before .before .before .before .before .before .before .before .before .pre .0), ready-as (leads-ready (walked-leads (w .1 .0)) (c .before .before .before .before .before .before .before .before .before .before .before .before .pre .1 .0)) (ap (λ (v : Thread). v .promises) (c .before .at-position .ensures)))
 
 both-ways-is-requires : (t : ℕ) → both-ways-lts.Need-is-requires (both-ways-claims t) (both-ways-at t) both-ways.Post
 both-ways-is-requires t c κs = search needs
 
 both-ways-sub-before-straight : (t : ℕ) → both-ways-lts.Need-sub-before-straight (both-ways-claims t) (both-ways-at t) both-ways.Post
-both-ways-sub-before-straight t c = let h = c .before .before .before .before .before .before .before .before .before .before .before .before .before .before .before .pre .1 .1 .0 .some-step in omega arith
+both-ways-sub-before-straight t c = let h = c .before .before .before .before .before .before .before .before .before .before .before .before .before .before .before .before .straight .ensures .0 .forks (c .before .before .before .before .before .before .before .before .before .if2 .taken) .some-step in omega arith
 
 both-ways-and-requires : (t : ℕ) → both-ways-lts.Need-and-requires (both-ways-claims t) (both-ways-at t) both-ways.Post
 both-ways-and-requires t c κs = search needs
 
+both-ways-before-straight-requires : (t : ℕ) → both-ways-lts.Need-before-straight-requires (both-ways-claims t) (both-ways-at t) both-ways.Post
+both-ways-before-straight-requires t c κs = let h = c .before .before .before .before .before .before .before .before .before .before .before .before .before .before .before .before .before .straight .ensures .1 .1 in omega arith
+
+both-ways-returns-2 : (t : ℕ) → both-ways-lts.Need-returns-2 (both-ways-claims t) (both-ways-at t) both-ways.Post
+both-ways-returns-2 t c =
+    let w = c .before .before .before .before .before .before .before .before .before .before .before .before .before .before .before .before .before .before .straight .ensures in
+    let f = w .0 .forks (c .before .before .before .before .before .before .before .before .before .before .before .if2 .taken) in
+    both-found _ _ _ _ _ _ f _ _ (walked-leads (w .1 .0)) (c .before .before .before .before .before .before .before .before .before .before .before .before .before .before .before .before .before .before .before .args .q) _ (c .before .before .before .before .before .before .before .before .before .before .before .before .before .before .before .before .before .search-runs .ensures) _ (c .before .before .before .before .before .before .before .before .at-position .ensures) _ (rw (c .before .before .before .before .before .before .before .after .ensures) at (c .before .before .before .before .before .before .search-runs2 .ensures)) (c .before .before .before .before .is .ensures (c .before .before .before .if4 .taken)) _ _ (c .before .and .ensures) (λ s'. c .before-straight .ensures _ _ _ s' (f .walked))
+
 both-ways-before-straight-requires-2 : (t : ℕ) → both-ways-lts.Need-before-straight-requires-2 (both-ways-claims t) (both-ways-at t) both-ways.Post
-both-ways-before-straight-requires-2 t c κs = let h = c .before .before .before .before .before .before .before .before .before .before .before .before .before .before .before .before .pre .1 .1 .1 .1 in omega arith
+both-ways-before-straight-requires-2 t c κs = c .before .before .before .before .before .before .before .straight .ensures .1 .1
 
 both-ways-returns-3 : (t : ℕ) → both-ways-lts.Need-returns-3 (both-ways-claims t) (both-ways-at t) both-ways.Post
-both-ways-returns-3 t c = let f = c .before .before .before .before .before .before .before .before .before .before .before .before .before .before .before .before .before .pre .1 .1 .0 in both-found _ _ _ _ _ _ f _ _ (walked-leads (c .before .before .before .before .before .before .before .before .before .before .before .before .before .before .before .before .before .pre .1 .1 .1 .0)) (c .before .before .before .before .before .before .before .before .before .before .before .before .before .before .before .before .before .args .q) _ (c .before .before .before .before .before .before .before .before .before .before .before .before .before .before .before .before .search-runs .ensures) _ (c .before .before .before .before .before .before .before .before .at-position .ensures) _ (rw (c .before .before .before .before .before .before .before .after .ensures) at (c .before .before .before .before .before .before .search-runs2 .ensures)) (c .before .before .before .before .is .ensures (c .before .before .before .if3 .taken)) _ _ (c .before .and .ensures) (λ s'. c .before-straight2 .ensures _ _ _ s' (f .walked))
-
-both-ways-before-straight-requires-3 : (t : ℕ) → both-ways-lts.Need-before-straight-requires-3 (both-ways-claims t) (both-ways-at t) both-ways.Post
-both-ways-before-straight-requires-3 t c κs = c .before .before .before .before .before .before .before .before .before .before .before .before .before .before .pre .1 .1 .1 .1
-
-both-ways-returns-4 : (t : ℕ) → both-ways-lts.Need-returns-4 (both-ways-claims t) (both-ways-at t) both-ways.Post
-both-ways-returns-4 t c = straight-found _ _ _ _ _ (walked-leads (c .before .before .before .before .before .before .before .before .before .before .before .before .before .before .before .pre .1 .1 .1 .0)) (c .before .before .before .before .before .before .before .before .before .before .before .before .before .before .before .args .q) _ (c .before .before .before .before .before .before .before .before .before .before .before .before .before .before .search-runs .ensures) _ (λ s'. c .before-straight3 .ensures _ _ _ s' (c .before .before .before .before .before .before .before .before .before .before .before .before .before .before .before .pre .1 .1 .1 .0))
+both-ways-returns-3 t c = straight-found _ _ _ _ _ (walked-leads (c .before .before .before .before .before .before .before .before .straight .ensures .1 .0)) (c .before .before .before .before .before .before .before .before .before .args .q) _ (c .before .before .before .before .before .before .before .search-runs .ensures) _ (λ s'. c .before-straight2 .ensures _ _ _ s' (c .before .before .before .before .before .before .before .before .straight .ensures .1 .0))
 
 places : (t : ℕ) (c : filled-lts.Start (filled-claims t) (filled-at t) filled.Post) → length (c .args .m .messages) ≡ 16
 places t c = search length-mapped depth 7
@@ -574,11 +579,17 @@ search-runs-search-at-requires t c κs = (omega (arith, c .before .before .befor
 search-runs-returns-3 : (t : ℕ) → search-runs-lts.Need-returns-3 (search-runs-claims t) (search-runs-at t) search-runs.Post
 search-runs-returns-3 t c = c .search-at .ensures
 
-search-runs-walk-on-requires : (t : ℕ) → search-runs-lts.Need-walk-on-requires (search-runs-claims t) (search-runs-at t) search-runs.Post
-search-runs-walk-on-requires t c κs = (omega (arith, c .before .before .before .before .before .before .before .pre .0), (c .before .before .before .before .before .before .before .pre .1, (c .before .before .if2 .left, c .before .halts .ensures _ refl .1 (c .if3 .left))))
+search-runs-both-ways-requires : (t : ℕ) → search-runs-lts.Need-both-ways-requires (search-runs-claims t) (search-runs-at t) search-runs.Post
+search-runs-both-ways-requires t c κs = (omega (arith, c .before .before .before .before .before .before .before .before .before .pre .0), (c .before .before .before .before .before .before .before .before .before .pre .1, (c .before .before .before .before .if2 .left, c .before .before .before .halts .ensures _ refl .1 (c .before .before .if3 .left))))
 
 search-runs-returns-4 : (t : ℕ) → search-runs-lts.Need-returns-4 (search-runs-claims t) (search-runs-at t) search-runs.Post
-search-runs-returns-4 t c = c .walk-on .ensures
+search-runs-returns-4 t c = c .both-ways .ensures
+
+search-runs-walk-on-requires : (t : ℕ) → search-runs-lts.Need-walk-on-requires (search-runs-claims t) (search-runs-at t) search-runs.Post
+search-runs-walk-on-requires t c κs = (omega (arith, c .before .before .before .before .before .before .before .before .before .pre .0), (c .before .before .before .before .before .before .before .before .before .pre .1, (c .before .before .before .before .if2 .left, c .before .before .before .halts .ensures _ refl .1 (c .before .before .if3 .left))))
+
+search-runs-returns-5 : (t : ℕ) → search-runs-lts.Need-returns-5 (search-runs-claims t) (search-runs-at t) search-runs.Post
+search-runs-returns-5 t c = c .walk-on .ensures
 
 try-at-execute-requires : (t : ℕ) → try-at-lts.Need-execute-requires (try-at-claims t) (try-at-at t) try-at.Post
 try-at-execute-requires t c κs = let w = c .pre .1 .0 in (reach-byte _ _ _ _ w, w .ready .room)
@@ -626,55 +637,47 @@ try-at-returns-3 : (t : ℕ) → try-at-lts.Need-returns-3 (try-at-claims t) (tr
 try-at-returns-3 t c = went-resumed _ _ _ _ _ _ _ _ (c .before .before .before .before .before .before .before .before .before .before .pre .1 .1 .1) _ (ruled-done _ _ _ (c .before .before .before .before .before .before .before .before .before .execute .ensures) (c .before .before .before .before .before .before .before .enum-told .given .1)) _ (c .before .before .before .idle .ensures) _ (c .before .before .resumed .ensures) _ (rw (c .before .before .before .before .before .before .after .ensures) at (c .before .search-runs .ensures)) _ (c .noted .ensures)
 
 walk-on-straight-requires : (t : ℕ) → walk-on-lts.Need-straight-requires (walk-on-claims t) (walk-on-at t) walk-on.Post
-walk-on-straight-requires t c κs = c .before .pre .1 .0 .code-ok
-
-walk-on-both-ways-requires : (t : ℕ) → walk-on-lts.Need-both-ways-requires (walk-on-claims t) (walk-on-at t) walk-on.Post
-walk-on-both-ways-requires t c κs = (omega (arith, c .before .before .before .before .pre .0), (c .before .before .before .before .pre .1 .0, (c .before .before .straight .ensures .0 .forks (c .if1 .taken), c .before .before .straight .ensures .1)))
-
-walk-on-returns : (t : ℕ) → walk-on-lts.Need-returns (walk-on-claims t) (walk-on-at t) walk-on.Post
-walk-on-returns t c = c .both-ways .ensures
+walk-on-straight-requires t c κs = c .pre .1 .0 .code-ok
 
 walk-on-search-runs-requires : (t : ℕ) → walk-on-lts.Need-search-runs-requires (walk-on-claims t) (walk-on-at t) walk-on.Post
 walk-on-search-runs-requires t c κs =
-    let w = c .before .before .straight .ensures in
-    let l = walked-further (w .1 .0) (w .0 .halts (c .if1 .left)) (c .before .before .before .before .pre .1 .1 .1) in
-    let low = c .before .before .before .before .pre .1 .1 .0 in
-    let short = c .before .before .before .before .pre .1 .0 .code-ok .short in
-    (omega (arith, c .before .before .before .before .pre .0), leads-ready (walked-leads (w .1 .0)) (c .before .before .before .before .pre .1 .0))
+    let w = c .straight .ensures in
+    let l = ended-further (w .0) (w .1 .0) (c .before .pre .1 .1 .1) in
+    let low = c .before .pre .1 .1 .0 in
+    let short = c .before .pre .1 .0 .code-ok .short in
+    (omega (arith, c .before .pre .0), leads-ready (walked-leads (w .1 .0)) (c .before .pre .1 .0))
 
 walk-on-ended-requires : (t : ℕ) → walk-on-lts.Need-ended-requires (walk-on-claims t) (walk-on-at t) walk-on.Post
 walk-on-ended-requires t c κs = search needs
 
-walk-on-returns-2 : (t : ℕ) → walk-on-lts.Need-returns-2 (walk-on-claims t) (walk-on-at t) walk-on.Post
-walk-on-returns-2 t c = straight-ended _ _ _ _ _ (walked-leads (c .before .before .before .before .before .before .straight .ensures .1 .0)) (c .before .before .before .before .before .before .before .before .args .q) _ (c .before .before .before .search-runs .ensures) (c .before .ended .ensures (c .if2 .taken))
+walk-on-returns : (t : ℕ) → walk-on-lts.Need-returns (walk-on-claims t) (walk-on-at t) walk-on.Post
+walk-on-returns t c = straight-ended _ _ _ _ _ (walked-leads (c .before .before .before .before .straight .ensures .1 .0)) (c .before .before .before .before .before .args .q) _ (c .before .before .before .search-runs .ensures) (c .before .ended .ensures (c .if1 .taken))
 
 walk-on-before-straight-requires : (t : ℕ) → walk-on-lts.Need-before-straight-requires (walk-on-claims t) (walk-on-at t) walk-on.Post
-walk-on-before-straight-requires t c κs = c .before .before .before .before .before .before .before .straight .ensures .1 .1
+walk-on-before-straight-requires t c κs = c .before .before .before .before .before .straight .ensures .1 .1
 
-walk-on-returns-3 : (t : ℕ) → walk-on-lts.Need-returns-3 (walk-on-claims t) (walk-on-at t) walk-on.Post
-walk-on-returns-3 t c = straight-found _ _ _ _ _ (walked-leads (c .before .before .before .before .before .before .before .before .straight .ensures .1 .0)) (c .before .before .before .before .before .before .before .before .before .before .args .q) _ (c .before .before .before .before .before .search-runs .ensures) _ (λ s'. c .before-straight .ensures _ _ _ s' (c .before .before .before .before .before .before .before .before .straight .ensures .1 .0))
+walk-on-returns-2 : (t : ℕ) → walk-on-lts.Need-returns-2 (walk-on-claims t) (walk-on-at t) walk-on.Post
+walk-on-returns-2 t c = straight-found _ _ _ _ _ (walked-leads (c .before .before .before .before .before .before .straight .ensures .1 .0)) (c .before .before .before .before .before .before .before .args .q) _ (c .before .before .before .before .before .search-runs .ensures) _ (λ s'. c .before-straight .ensures _ _ _ s' (c .before .before .before .before .before .before .straight .ensures .1 .0))
 
 pub +both-ways+filled+keeps+own-reached+search-at+search-runs+try-at+walk-on-spec : {M : Type 1} → statement M
 +both-ways+filled+keeps+own-reached+search-at+search-runs+try-at+walk-on-spec =
     close μ-both-ways μ-filled μ-keeps μ-own-reached μ-search-at μ-search-runs μ-try-at μ-walk-on (λ t. both-ways-lts.spec (both-ways-claims t) (both-ways-at t)
     both-ways.Post
+    (both-ways-straight-requires t)
     (both-ways-search-runs-requires t)
     (both-ways-ended-requires t)
     (both-ways-returns t)
-    (both-ways-held-requires t)
     (both-ways-of-register-requires t)
-    (both-ways-before-straight-requires t)
-    (both-ways-returns-2 t)
     (both-ways-at-position-requires t)
     (both-ways-after-requires t)
     (both-ways-search-runs-requires-2 t)
     (both-ways-is-requires t)
     (both-ways-sub-before-straight t)
     (both-ways-and-requires t)
+    (both-ways-before-straight-requires t)
+    (both-ways-returns-2 t)
     (both-ways-before-straight-requires-2 t)
-    (both-ways-returns-3 t)
-    (both-ways-before-straight-requires-3 t)
-    (both-ways-returns-4 t))
+    (both-ways-returns-3 t))
     (λ t. filled-lts.spec (filled-claims t) (filled-at t)
     filled.Post
     (filled-has-requires t)
@@ -778,8 +781,10 @@ pub +both-ways+filled+keeps+own-reached+search-at+search-runs+try-at+walk-on-spe
     (search-runs-instr-at-requires t)
     (search-runs-search-at-requires t)
     (search-runs-returns-3 t)
+    (search-runs-both-ways-requires t)
+    (search-runs-returns-4 t)
     (search-runs-walk-on-requires t)
-    (search-runs-returns-4 t))
+    (search-runs-returns-5 t))
     (λ t. try-at-lts.spec (try-at-claims t) (try-at-at t)
     try-at.Post
     (try-at-execute-requires t)
@@ -798,10 +803,8 @@ pub +both-ways+filled+keeps+own-reached+search-at+search-runs+try-at+walk-on-spe
     λ t. walk-on-lts.spec (walk-on-claims t) (walk-on-at t)
     walk-on.Post
     (walk-on-straight-requires t)
-    (walk-on-both-ways-requires t)
-    (walk-on-returns t)
     (walk-on-search-runs-requires t)
     (walk-on-ended-requires t)
-    (walk-on-returns-2 t)
+    (walk-on-returns t)
     (walk-on-before-straight-requires t)
-    (walk-on-returns-3 t)
+    (walk-on-returns-2 t)
