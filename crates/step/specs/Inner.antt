@@ -8,7 +8,7 @@ use lib.ListN.{set}
 use Rattle.program.specs.Tests.{sumBelow}
 use Rattle.program.specs.Program.{codeOf}
 use Rattle.program.specs.Counts.{storesFrom}
-use Rattle.machine.specs.State.{threadOf, append}
+use Rattle.machine.specs.State.{noMessage, threadOf, append}
 use Rattle.machine.specs.Rules.{addPromise}
 use Rattle.certify_runs.specs.Certify.{certified}
 use Rattle.certify_runs.specs.Inner.{outstanding}
@@ -29,6 +29,10 @@ memoryAfter m k (suc n) = append m (promisedBy k)
 -- r is that memory; a promise that is taken has room
 abbrev pub Remembers : Memory → Step → Memory → Type 0
 Remembers m k r = (k .kind ≡ 0) ⊎ (m .count < 16) → r ≡ memoryAfter m k (k .kind)
+
+-- the memory without its newest message
+abbrev pub withoutNewest : Memory → Memory
+withoutNewest m = record { count = m .count - 1; messages = set (m .messages) (m .count - 1) noMessage }
 
 -- what it says of a machine: thread i is replaced, on memory m, or the number
 abbrev pub placed : Machine → ℕ → Memory → Thread → StepAnswer → Decision

@@ -4,14 +4,14 @@ mod checked;
 pub use checked::step;
 ghost use mathlib.Core.Path.{_≡_};
 ghost use mathlib.Core.Option.{some};
-ghost use Prim.Native.Nat.{_+_, _^_, _<_};
+ghost use Prim.Native.Nat.{_+_, _^_, _<_, _≤_};
 ghost use Rattle.program.specs.Program.{instrAt};
 ghost use Rattle.machine.specs.State.{with, withPromises};
 ghost use Rattle.machine.specs.Inner.{Formed};
 ghost use Rattle.certify_runs.specs.Inner.{Ready};
 ghost use Rattle.step.specs.Step.{rejected, ruleStep};
 ghost use Rattle.step.specs.Answers.{Taken, Refused, stepped, stepRefusal};
-ghost use Rattle.step.specs.Inner.{Settles, Executes, Promises, PromisesKept, Moves, Remembers};
+ghost use Rattle.step.specs.Inner.{Settles, Executes, Promises, PromisesKept, Moves, Remembers, withoutNewest};
 use certify::is_certified;
 use machine::Machine;
 use machine::Memory;
@@ -197,6 +197,21 @@ pub fn memory_after(m: Memory, k: TraceStep) -> Memory
         thread: k.thread,
     };
     m.append(w)
+}
+
+// The memory before a promise, from the one after it: the newest message is taken off.
+pub fn memory_before(mut m: Memory) -> Memory
+    requires { ⌜ (0 < m .count) × (m .count ≤ 16) ⌝ }
+    ensures { λ r. ⌜ r ≡ withoutNewest m ⌝ }
+{
+    let n = m.count - 1;
+    m.messages[n as usize] = Message {
+        location: 0,
+        value: 0,
+        thread: 0,
+    };
+    m.count = n;
+    m
 }
 
 // The step on a program and a machine that are well formed.
