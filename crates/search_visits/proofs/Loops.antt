@@ -1,10 +1,11 @@
 -- What the loops of a visit know, on plain values: the machine that is changed in place, and where the search stands.
 -- Assumes nothing.
 use mathlib.Core.Path.{_≡_, refl, sym, ap, subst, _∙_}
+use mathlib.Core.Logic.{_⊎_, inl, ⊎-elim}
 use mathlib.Core.Bool.{Bool, true, false, cond}
 use mathlib.Core.Option.{some}
 use mathlib.Core.List.{List}
-use Prim.Native.Nat.{ℕ, _+_, _-_, _*_, _≤_, _<_}
+use Prim.Native.Nat.{ℕ, zero, suc, _+_, _-_, _*_, _≤_, _<_}
 use native.Mathlib.Omega.{arith}
 use lib.Dec.{T, ltb}
 use lib.ListN.{length, getD, set}
@@ -13,7 +14,7 @@ use Rattle.program.specs.declared.Program.{Program}
 use Rattle.machine.specs.declared.Memory.{Memory}
 use Rattle.machine.specs.declared.Thread.{Thread}
 use Rattle.machine.specs.declared.Machine.{Machine}
-use Rattle.machine.specs.State.{freshThread, threadOf}
+use Rattle.machine.specs.State.{freshThread, threadOf, append}
 use Rattle.program.specs.Program.{instrAt, codeOf}
 use Rattle.program.specs.declared.Instr.{Instr}
 use Rattle.program.proofs.Arrays.{getD-any}
@@ -26,7 +27,8 @@ use Rattle.step.specs.Step.{Step, accepted, rejected, step}
 use Rattle.step.specs.declared.StepAnswer.the-variants.{Taken, Refused}
 use Rattle.step.specs.declared.Moved.{Moved}
 use Rattle.step.specs.Order.{execution}
-use Rattle.step.specs.Inner.{Here, Remembers, Moves, potential}
+use Rattle.step.specs.Inner.{Here, promisedBy, memoryAfter, Remembers, withoutNewest, Moves, potential}
+use Rattle.step.proofs.Stepping.{room-taken}
 use Rattle.step.proofs.Answered.{thread-taken, thread-refused}
 use Rattle.trace_record.specs.Trace.{stepBytes}
 use Rattle.step.proofs.Bound.{lowers}
@@ -42,27 +44,23 @@ use Rattle.search_tries.specs.declared.Ahead.{Ahead}
 use Rattle.search_tries.specs.Worthwhile.{Worth, Foreseen, Keepable}
 use Rattle.search_tries.proofs.Refused.{sound-here}
 use Rattle.search_tries.proofs.Worth.{keepable}
-use Rattle.search_visits.proofs.InPlace.{set-again, set-back}
+use Rattle.search_visits.proofs.InPlace.{set-again, set-back, taken-off}
 use Rattle.search_arrivals.proofs.Turns.{BeforeThread, BeforeStep, begins, all-done, to-next, first-try, thread-done, to-open, refused-on, went-below, out-below, found-below, has-thread, not-asked}
 
--- y is x but for thread i and the memory
+-- y is x but for thread i, and perhaps the memory
 abbrev Others : Machine → ℕ → Machine → Type 0
 Others x i y = (q : Thread) → set (y .threads) i q ≡ set (x .threads) i q
-
--- y with the memory m put back
-abbrev pub restored : Memory → Machine → Machine
-restored m y = record { memory = m; threads = y .threads }
 
 -- which thread is open next is told by the threads alone
 open-by-threads : (p : Program) (x z : Machine) (i r : ℕ) → z .threads ≡ x .threads → NextOpen p z i r → NextOpen p x i r
 open-by-threads p x z i r e n =
-    let m : NextOpen p (restored (x .memory) z) i r = record { within = n .within; after = n .after; has-next = n .has-next; ended = n .ended } in
+    let m : NextOpen p (record { memory = x .memory; threads = z .threads }) i r = record { within = n .within; after = n .after; has-next = n .has-next; ended = n .ended } in
     subst (λ (y : Machine). NextOpen p y i r) (λ j. record { memory = x .memory; threads = e j }) m
 
 -- before thread i
-pub record AtThread (p : Program) (x : Machine) (d left : ℕ) (old : List ℕ) (m : Memory) (y : Machine) (area : List ℕ) (rest i : ℕ) : Type 0 where
+pub record AtThread (p : Program) (x : Machine) (d left : ℕ) (old : List ℕ) (y : Machine) (area : List ℕ) (rest i : ℕ) : Type 0 where
   pub ready : Visitable p x d old
-  pub memory : m ≡ x .memory
+  pub memory : y .memory ≡ x .memory
   pub four-codes : length (p .codes) ≡ 4
   pub four-threads : length (x .threads) ≡ 4
   pub put-back : y .threads ≡ x .threads
@@ -71,14 +69,15 @@ pub record AtThread (p : Program) (x : Machine) (d left : ℕ) (old : List ℕ) 
   pub stands : BeforeThread p x (visiting p x left) i rest
 
 -- before step k .next of thread i, which has code c, state s and the next instruction w
-pub record AtStep (p : Program) (x : Machine) (d left : ℕ) (old : List ℕ) (m : Memory) (i : ℕ) (c : Code) (s : Thread) (w : Instr) (t : Attempts) (y : Machine) (area : List ℕ) (rest : ℕ) (k : Ahead) : Type 0 where
+pub record AtStep (p : Program) (x : Machine) (d left : ℕ) (old : List ℕ) (i : ℕ) (c : Code) (s : Thread) (w : Instr) (t : Attempts) (y : Machine) (area : List ℕ) (rest : ℕ) (k : Ahead) : Type 0 where
   pub ready : Visitable p x d old
-  pub here : Here c m s p x i
+  pub here : Here c (x .memory) s p x i
   pub next-is : instrAt c (s .position) ≡ some w
+  pub memory : y .memory ≡ x .memory
   pub others : Others x i y
-  pub worth : Worth c m s t
+  pub worth : Worth c (x .memory) s t
   pub in-program : i < p .threads
-  pub ahead : Foreseen c m s k
+  pub ahead : Foreseen c (x .memory) s k
   pub same : area ≡ old
   pub stands : BeforeStep p x (visiting p x left) i (k .next) rest
 
@@ -98,15 +97,15 @@ step-thread i k = go (ltb k 17)
     go true = refl
     go false = refl
 
-module _ {p : Program} {x : Machine} {d left : ℕ} {old : List ℕ} {m : Memory} where
-  pub enters : Visitable p x d old → (left ≡ 0 → ⊥) → (i : ℕ) → NextOpen p x 0 i → (i ≡ 4 → ⊥) → m ≡ x .memory → length (p .codes) ≡ 4 → length (x .threads) ≡ 4
-      → AtThread p x d left old m x old (left - 1) i
-  enters o h i n four z q w =
+module _ {p : Program} {x : Machine} {d left : ℕ} {old : List ℕ} where
+  pub enters : Visitable p x d old → (left ≡ 0 → ⊥) → (i : ℕ) → NextOpen p x 0 i → (i ≡ 4 → ⊥) → length (p .codes) ≡ 4 → length (x .threads) ≡ 4
+      → AtThread p x d left old x old (left - 1) i
+  enters o h i n four q w =
       let top = n .within in
       let l : i < 4 = omega (arith, four) in
       record {
         ready = o;
-        memory = z;
+        memory = refl;
         four-codes = q;
         four-threads = w;
         put-back = refl;
@@ -115,13 +114,13 @@ module _ {p : Program} {x : Machine} {d left : ℕ} {old : List ℕ} {m : Memory
         stands = to-open p x 0 i (left - 1) n (begins p x left (omega (arith, h)) (not-asked p x i (has-thread p x (o .well) i l (n .has-next l)) (n .has-next l)));
       }
 
-  module _ {y : Machine} {area : List ℕ} {rest i : ℕ} (T : AtThread p x d left old m y area rest i) where
+  module _ {y : Machine} {area : List ℕ} {rest i : ℕ} (T : AtThread p x d left old y area rest i) where
     pub in-program : i < 4 → i < p .threads
     in-program h = has-thread p x (T .ready .well) i h (T .has-next h)
 
-    -- y with its memory put back is x
-    is-restored : restored m y ≡ x
-    is-restored j = record { memory = T .memory j; threads = T .put-back j }
+    -- y is x again
+    is-back : y ≡ x
+    is-back j = record { memory = T .memory j; threads = T .put-back j }
 
     -- what is read from the arrays
     pub code-at : i < 4 → (e : Code) → getD (p .codes) i e ≡ codeOf p i
@@ -131,7 +130,7 @@ module _ {p : Program} {x : Machine} {d left : ℕ} {old : List ℕ} {m : Memory
     pub thread-at : i < 4 → (e : Thread) → getD (y .threads) i e ≡ threadOf x i
     thread-at h e = let q = T .four-threads in ap (λ (l : List Thread). getD l i e) (T .put-back) ∙ getD-any _ _ (x .threads) i (omega arith)
 
-    pub thread-ready : i < 4 → (c : Code) (s : Thread) → c ≡ codeOf p i → s ≡ threadOf x i → certified.Ready c m s
+    pub thread-ready : i < 4 → (c : Code) (s : Thread) → c ≡ codeOf p i → s ≡ threadOf x i → certified.Ready c (y .memory) s
     thread-ready h c s e f = rw (e, f, T .memory) (ready-here p x (T .ready .well) i (in-program h))
 
     pub next-there : i < 4 → (c : Code) (s : Thread) → c ≡ codeOf p i → s ≡ threadOf x i → (s .position < 16) × (s .position < c .count)
@@ -140,15 +139,18 @@ module _ {p : Program} {x : Machine} {d left : ℕ} {old : List ℕ} {m : Memory
         let b = thread-ready h c s e f .code-ok .short in
         (omega arith, l)
 
-    pub first : i < 4 → (c : Code) (s : Thread) → c ≡ codeOf p i → s ≡ threadOf x i → (u : Instr) → instrAt c (s .position) ≡ some u → (t : Attempts) → Worth c m s t → (k : Ahead) → NextStep stepNumbered 4113 c m s 0 (k .next) × Foreseen c m s k
-        → AtStep p (restored m y) d left area m i c s u t y area rest k
-    first h c s e f u is-next t w k nx =
-        let g : Here c m s p x i = record { code = sym e; memory = sym (T .memory); thread = sym f } in
-        subst (λ (z : Machine). AtStep p z d left area m i c s u t y area rest k) (sym is-restored)
+    pub first : i < 4 → (c : Code) (s : Thread) → c ≡ codeOf p i → s ≡ threadOf x i → (u : Instr) → instrAt c (s .position) ≡ some u → (t : Attempts) → Worth c (y .memory) s t → (k : Ahead) → NextStep stepNumbered 4113 c (y .memory) s 0 (k .next) × Foreseen c (y .memory) s k
+        → AtStep p y d left area i c s u t y area rest k
+    first h c s e f u is-next t worth k next =
+        let g : Here c (x .memory) s p x i = record { code = sym e; memory = refl; thread = sym f } in
+        let w = subst (λ (n : Memory). Worth c n s t) (T .memory) worth in
+        let nx = subst (λ (n : Memory). NextStep stepNumbered 4113 c n s 0 (k .next) × Foreseen c n s k) (T .memory) next in
+        subst (λ (z : Machine). AtStep p z d left area i c s u t y area rest k) (sym is-back)
         (record {
           ready = subst (Visitable p x d) (sym (T .same)) (T .ready);
           here = g;
           next-is = is-next;
+          memory = T .memory;
           others = λ q. ap (λ (l : List Thread). set l i q) (T .put-back);
           worth = w;
           in-program = in-program h;
@@ -164,15 +166,16 @@ module _ {p : Program} {x : Machine} {d left : ℕ} {old : List ℕ} {m : Memory
         (record { answer = refl; lent = T .same })
 
     -- all steps of the thread are done
-    pub leaves : {c : Code} {s : Thread} {u : Instr} {t : Attempts} {y' : Machine} {area' : List ℕ} {rest' : ℕ} {k : Ahead} → AtStep p (restored m y) d left area m i c s u t y' area' rest' k → 4113 ≤ k .next
-        → (z : Machine) → z .threads ≡ set (y' .threads) i s → (r : ℕ) → NextOpen p z (i + 1) r → AtThread p x d left old m z area' rest' r
-    leaves {c} {s} {u} {t} {y'} {area'} {rest'} {k} done h z e r v =
-        let U = subst (λ (o : Machine). AtStep p o d left area m i c s u t y' area' rest' k) is-restored done in
+    pub leaves : {c : Code} {s : Thread} {u : Instr} {t : Attempts} {y' : Machine} {area' : List ℕ} {rest' : ℕ} {k : Ahead} → AtStep p y d left area i c s u t y' area' rest' k → 4113 ≤ k .next
+        → (z : Machine) → z ≡ record { memory = y' .memory; threads = set (y' .threads) i s } → (r : ℕ) → NextOpen p z (i + 1) r → AtThread p x d left old z area' rest' r
+    leaves {c} {s} {u} {t} {y'} {area'} {rest'} {k} done h z is r v =
+        let U = subst (λ (o : Machine). AtStep p o d left area i c s u t y' area' rest' k) is-back done in
+        let e = ap (λ (o : Machine). o .threads) is in
         let b : z .threads ≡ x .threads = e ∙ U .others s ∙ ap (set (x .threads) i) (sym (U .here .thread)) ∙ set-back (x .threads) i freshThread in
         let n = open-by-threads p x z (i + 1) r b v in
         record {
           ready = T .ready;
-          memory = T .memory;
+          memory = ap (λ (o : Machine). o .memory) is ∙ U .memory;
           four-codes = T .four-codes;
           four-threads = T .four-threads;
           put-back = b;
@@ -182,35 +185,46 @@ module _ {p : Program} {x : Machine} {d left : ℕ} {old : List ℕ} {m : Memory
         }
 
     -- an answer within the thread's steps is one of the whole
-    pub answers : {r : Ran} {new : List ℕ} → Reports d (visiting p (restored m y) left) r area new → Reports d (visiting p x left) r old new
+    pub answers : {r : Ran} {new : List ℕ} → Reports d (visiting p y left) r area new → Reports d (visiting p x left) r old new
     answers {r} {new} t =
         subst (λ (a : List ℕ). Reports d (visiting p x left) r a new) (T .same)
-        (subst (λ (z : Machine). Reports d (visiting p z left) r area new) is-restored t)
+        (subst (λ (z : Machine). Reports d (visiting p z left) r area new) is-back t)
 
-    -- what is below y with its memory put back is below x
-    pub less-than-whole : (n : ℕ) → n < potential p (restored m y) → n < potential p x
-    less-than-whole n = subst (λ (z : Machine). n < potential p z) is-restored
+    -- what is below y is below x
+    pub less-than-whole : (n : ℕ) → n < potential p y → n < potential p x
+    less-than-whole n = subst (λ (z : Machine). n < potential p z) is-back
 
-    -- what is written of y with its memory put back is written of x
-    pub whole-written : (slot n : ℕ) (t : List ℕ) {new : List ℕ} → new ≡ slotWith slot (restored m y) n t → new ≡ slotWith slot x n t
-    whole-written slot n t e = e ∙ ap (λ (z : Machine). slotWith slot z n t) is-restored
+    -- what is written of y is written of x
+    pub whole-written : (slot n : ℕ) (t : List ℕ) {new : List ℕ} → new ≡ slotWith slot y n t → new ≡ slotWith slot x n t
+    whole-written slot n t e = e ∙ ap (λ (z : Machine). slotWith slot z n t) is-back
 
-  module _ {i : ℕ} {c : Code} {s : Thread} {w : Instr} {t : Attempts} {o : Machine} {area : List ℕ} {rest : ℕ} {k : Ahead} (U : AtStep p x d left old m i c s w t o area rest k) where
-    pub step-ready : certified.Ready c m s
+  module _ {i : ℕ} {c : Code} {s : Thread} {w : Instr} {t : Attempts} {o : Machine} {area : List ℕ} {rest : ℕ} {k : Ahead} (U : AtStep p x d left old i c s w t o area rest k) where
+    step-ready : certified.Ready c (x .memory) s
     step-ready =
         let h = U .here in
-        subst (λ (n : Code). certified.Ready n m s) (h .code)
-        (subst (λ (n : Memory). certified.Ready (codeOf p i) n s) (h .memory)
-        (subst (λ (n : Thread). certified.Ready (codeOf p i) (x .memory) n) (h .thread) (ready-here p x (U .ready .well) i (U .in-program))))
+        subst (λ (n : Code). certified.Ready n (x .memory) s) (h .code)
+        (subst (λ (n : Thread). certified.Ready (codeOf p i) (x .memory) n) (h .thread) (ready-here p x (U .ready .well) i (U .in-program)))
 
-    pub step-sound : Sound m s
-    step-sound =
-        let h = U .here in
-        subst (λ (n : Memory). Sound n s) (h .memory)
-        (subst (λ (n : Thread). Sound (x .memory) n) (h .thread) (sound-here p x (machine-facts p x (U .ready .well)) i (U .in-program)))
+    step-sound : Sound (x .memory) s
+    step-sound = subst (λ (n : Thread). Sound (x .memory) n) (U .here .thread) (sound-here p x (machine-facts p x (U .ready .well)) i (U .in-program))
 
-    pub step-kept : k .next < 4113 → (k' : Step) → k' ≡ stepNumbered i (k .next) → Keepable c m s k'
-    step-kept l = keepable c m s i (k .next) l (U .ahead .next-kept)
+    -- what an attempt asks, of a memory that is that of x
+    pub attemptable : (n : Memory) → n ≡ x .memory → k .next < 4113 → (k' : Step) → k' ≡ stepNumbered i (k .next)
+        → certified.Ready c n s × (instrAt c (s .position) ≡ some w) × Numbered k' × Sound n s × Keepable c n s k' × Worth c n s t
+    attemptable n e l k' g =
+        subst (λ (a : Memory). certified.Ready c a s × (instrAt c (s .position) ≡ some w) × Numbered k' × Sound a s × Keepable c a s k' × Worth c a s t) (sym e)
+        (step-ready, U .next-is, is-numbered i (k .next) k' g, step-sound, keepable c (x .memory) s i (k .next) l (U .ahead .next-kept) k' g, U .worth)
+
+    pub attempted : (n : Memory) → n ≡ x .memory → (k' : Step) (r : Moved) (t' : Attempts) → Moves c n s k' r × Worth c n s t' → Moves c (x .memory) s k' r × Worth c (x .memory) s t'
+    attempted n e k' r t' = subst (λ (a : Memory). Moves c a s k' r × Worth c a s t') e
+
+    -- what the next try asks, and what it answers
+    pub next-asked : (n : Memory) → n ≡ x .memory → (t' : Attempts) → Worth c (x .memory) s t' → k .next < 4113 → certified.Ready c n s × (Worth c n s t' × (Foreseen c n s k × (k .next < 4113)))
+    next-asked n e t' v l = subst (λ (a : Memory). certified.Ready c a s × (Worth c a s t' × (Foreseen c a s k × (k .next < 4113)))) (sym e) (step-ready, (v, (U .ahead, l)))
+
+    pub next-told : (n : Memory) → n ≡ x .memory → (k' : Ahead) → NextStep stepNumbered 4113 c n s (k .next + 1) (k' .next) × Foreseen c n s k'
+        → NextStep stepNumbered 4113 c (x .memory) s (k .next + 1) (k' .next) × Foreseen c (x .memory) s k'
+    next-told n e k' = subst (λ (a : Memory). NextStep stepNumbered 4113 c a s (k .next + 1) (k' .next) × Foreseen c a s k') e
 
     -- thread i set once more
     pub set-others : (q : Thread) (o' : Machine) → o' .threads ≡ set (o .threads) i q → Others x i o'
@@ -220,13 +234,14 @@ module _ {p : Program} {x : Machine} {d left : ℕ} {old : List ℕ} {m : Memory
     same-others o' e a = ap (λ (z : Machine). set (z .threads) i a) e ∙ U .others a
 
     -- on to the next try, with b left of the budget and t' to try
-    pub on : (t' : Attempts) → Worth c m s t' → (b rest' : ℕ) (k' : Ahead) (mid new : List ℕ) (o' : Machine) → Others x i o' → k .next < 4113 → BeforeStep p x (visiting p x left) i (k .next + 1) b × (mid ≡ area) → new ≡ mid → rest' ≡ b
-        → NextStep stepNumbered 4113 c m s (k .next + 1) (k' .next) × Foreseen c m s k' → AtStep p x d left old m i c s w t' o' new rest' k'
-    on t' worth b rest' k' mid new o' others l v e f nx =
+    pub on : (t' : Attempts) → Worth c (x .memory) s t' → (b rest' : ℕ) (k' : Ahead) (mid new : List ℕ) (o' : Machine) → o' .memory ≡ x .memory → Others x i o' → k .next < 4113 → BeforeStep p x (visiting p x left) i (k .next + 1) b × (mid ≡ area) → new ≡ mid → rest' ≡ b
+        → NextStep stepNumbered 4113 c (x .memory) s (k .next + 1) (k' .next) × Foreseen c (x .memory) s k' → AtStep p x d left old i c s w t' o' new rest' k'
+    on t' worth b rest' k' mid new o' same-memory others l v e f nx =
         record {
           ready = U .ready;
           here = U .here;
           next-is = U .next-is;
+          memory = same-memory;
           others = others;
           worth = worth;
           in-program = U .in-program;
@@ -235,12 +250,12 @@ module _ {p : Program} {x : Machine} {d left : ℕ} {old : List ℕ} {m : Memory
           stands = to-next p x i (k .next + 1) (k' .next) rest' (U .here) (omega arith) (nx .0) (subst (BeforeStep p x (visiting p x left) i (k .next + 1)) (sym f) (v .0));
         }
 
-    module _ (l : k .next < 4113) (k' : Step) (e : k' ≡ stepNumbered i (k .next)) (r : Moved) (q : Moves c m s k' r) where
+    module _ (l : k .next < 4113) (k' : Step) (e : k' ≡ stepNumbered i (k .next)) (r : Moved) (q : Moves c (x .memory) s k' r) where
       thread-is : k' .thread ≡ i
       thread-is = ap (λ (y : Step). y .thread) e ∙ step-thread i (k .next)
 
-      here-too : Here c m s p x (k' .thread)
-      here-too = subst (Here c m s p x) (sym thread-is) (U .here)
+      here-too : Here c (x .memory) s p x (k' .thread)
+      here-too = subst (Here c (x .memory) s p x) (sym thread-is) (U .here)
 
       in-program-too : k' .thread < p .threads
       in-program-too = let h = thread-is in let g = U .in-program in omega arith
@@ -250,12 +265,61 @@ module _ {p : Program} {x : Machine} {d left : ℕ} {old : List ℕ} {m : Memory
           refused-on p x i (k .next) rest l (U .stands) n
           (subst (λ (y : Step). step p x y ≡ rejected n) e (thread-refused p x (U .ready .well) k' in-program-too here-too r q n h))
 
-      module _ (h : r .answer ≡ Taken) (n : Memory) (v : Remembers m k' n) (y : Machine) (z : y ≡ record { memory = n; threads = set (o .threads) i (r .thread) }) where
+      -- the memory with the message of a promise, and the threads as they are
+      pub record Promised (z : Machine) : Type 0 where
+        pub remembers : Remembers (x .memory) k' (z .memory)
+        pub threads : z .threads ≡ o .threads
+
+      pub by-promise : (n' : Memory) → Remembers (o .memory) k' n' → (z : Machine) → z ≡ record { memory = n'; threads = o .threads } → Promised z
+      by-promise n' v z is = record {
+        remembers = λ room. ap (λ (a : Machine). a .memory) is ∙ subst (λ (a : Memory). Remembers a k' n') (U .memory) v room;
+        threads = ap (λ (a : Machine). a .threads) is;
+      }
+
+      pub by-none : k' .kind ≡ 0 → (z : Machine) → z ≡ o → Promised z
+      by-none none z is = record {
+        remembers = λ room. ap (λ (a : Machine). a .memory) is ∙ U .memory ∙ sym (ap (memoryAfter (x .memory) k') none);
+        threads = ap (λ (a : Machine). a .threads) is;
+      }
+
+      module _ (h : r .answer ≡ Taken) (z : Machine) (v : Promised z) where
+        abbrev y : Machine
+        y = record { memory = z .memory; threads = set (z .threads) i (r .thread) }
+
         is-accepted : step p x (stepNumbered i (k .next)) ≡ accepted y
         is-accepted =
             subst (λ (j : Step). step p x j ≡ accepted y) e
-            (thread-taken p x (U .ready .well) k' in-program-too here-too r q h n v y
-            (z ∙ (λ j. record { memory = n; threads = U .others (r .thread) j }) ∙ ap (λ (j : ℕ). record { memory = n; threads = set (x .threads) j (r .thread) }) (sym thread-is)))
+            (thread-taken p x (U .ready .well) k' in-program-too here-too r q h (z .memory) (v .remembers) y
+            (λ j. record { memory = z .memory; threads = (ap (λ (l : List Thread). set l i (r .thread)) (v .threads) ∙ U .others (r .thread) ∙ ap (λ (n : ℕ). set (x .threads) n (r .thread)) (sym thread-is)) j }))
+
+        has-room : (k' .kind ≡ 0) ⊎ (x .memory .count < 16)
+        has-room = room-taken p x k' _ r (q p x here-too) h
+
+        -- the memory of a promise is that of x with its message
+        with-message : (k' .kind ≡ 0 → ⊥) → (z .memory ≡ append (x .memory) (promisedBy k')) × (x .memory .count < 16)
+        with-message not =
+            let few : x .memory .count < 16 = ⊎-elim (λ none. absurd (not none)) (λ l. l) has-room in
+            (v .remembers has-room ∙ go (k' .kind) not, few)
+          where
+            go : (n : ℕ) → (n ≡ 0 → ⊥) → memoryAfter (x .memory) k' n ≡ append (x .memory) (promisedBy k')
+            go zero n = absurd (n refl)
+            go (suc n) s = refl
+
+        pub has-newest : (k' .kind ≡ 0 → ⊥) → (0 < z .memory .count) × (z .memory .count ≤ 16)
+        has-newest not =
+            let w = with-message not in
+            let e = ap (λ (a : Memory). a .count) (w .0) in
+            let few = w .1 in
+            (omega arith, omega arith)
+
+        -- it is taken off again
+        pub off-again : (k' .kind ≡ 0 → ⊥) → withoutNewest (z .memory) ≡ x .memory
+        off-again not =
+            ap withoutNewest (with-message not .0)
+            ∙ taken-off (x .memory) (promisedBy k') (machine-facts p x (U .ready .well) .memory-ok .unused (x .memory .count) (omega arith))
+
+        pub still : k' .kind ≡ 0 → z .memory ≡ x .memory
+        still none = v .remembers (inl none) ∙ ap (memoryAfter (x .memory) k') none
 
         pub lower : potential p y < potential p x
         lower = lowers p x y (stepNumbered i (k .next)) is-accepted

@@ -16,12 +16,13 @@ use search_tries::threads::next_open;
 use search_tries::tries_of;
 use step::StepAnswer;
 use step::memory_after;
+use step::memory_before;
 use trace_record::put_step;
 
 // Visits x and each state that an accepted step leads to: by thread, from the first that is not at its end; of one thread
-// executions by time, then promises by location and value. A refused step costs nothing. y is x but for the memory and for the
-// thread whose turn it is: one copy of the machine is changed in place and put back, since a second one would cost as much as a
-// step, and take stack. Where all of it goes on, y is x again, and is written into the table.
+// executions by time, then promises by location and value. A refused step costs nothing. y is x but for the thread whose turn it is and for
+// the message that it promises: one copy of the machine is changed in place and put back, since a second one would cost as much as a step,
+// and take stack. Where all of it goes on, y is x again, and is written into the table.
 fn walk(
     p: Program,
     x: Machine,
@@ -35,7 +36,6 @@ fn walk(
     requires { ⌜ Visitable p x depth (now area) × Opens p x left (now table) first slot × EverySlot (Known p) (now table) ⌝ }
     ensures { λ r. ⌜ Reports depth (visiting p x left) r (now (area .entry)) (now (area .exit)) × EverySlot (Known p) (now (table .exit)) ⌝ }
 {
-    let m = x.memory;
     let mut y = x;
     let mut rest = left - 1;
     let mut i = first;
@@ -43,21 +43,26 @@ fn walk(
         let c = p.codes[i as usize];
         let s = y.threads[i as usize];
         let w = c.instr_at(s.position);
-        let mut t = tries_of(w, c, m, s);
-        let mut k = next_try(t, c, m, s, 0);
+        let mut t = tries_of(w, c, y.memory, s);
+        let mut k = next_try(t, c, y.memory, s, 0);
         while k.next < 4113 {
             let step = step_at(i, k.next);
-            let r = attempt(t, w, c, m, s, step);
+            let r = attempt(t, w, c, y.memory, s, step);
             t = r.left;
             let answer = r.answer;
             if let StepAnswer::Taken = answer {
-                y.memory = memory_after(m, step);
+                if step.kind != 0 {
+                    y.memory = memory_after(y.memory, step);
+                }
                 let q = r.thread;
                 y.threads[i as usize] = q;
                 let ran = match arrive(p, y, depth + 1, rest, table) {
                     Arrival::Over(o) => o,
                     Arrival::Open(f, l) => walk(p, y, f, l, depth + 1, rest, area, table),
                 };
+                if step.kind != 0 {
+                    y.memory = memory_before(y.memory);
+                }
                 match ran {
                     Ran::Going(b) => rest = b,
                     Ran::Found(b, n) => {
@@ -67,7 +72,7 @@ fn walk(
                     Ran::Out => return Ran::Out,
                 }
             }
-            k = after_try(t, c, m, s, k);
+            k = after_try(t, c, y.memory, s, k);
         }
         y.threads[i as usize] = s;
         i = next_open(p, y, i + 1);
@@ -75,7 +80,6 @@ fn walk(
     if table.len() < SLOT {
         return Ran::Going(rest);
     }
-    y.memory = m;
     keep(table, slot, y, left - rest);
     Ran::Going(rest)
 }

@@ -1,16 +1,18 @@
 -- `search_visits::walk` meets its contract.
 -- Assumes nothing.
-use Rattle.search_visits.proofs.Loops.{AtThread, AtStep, restored, enters, code-at, thread-at, thread-ready, next-there, first, ends, leaves, answers, less-than-whole, whole-written, step-ready, step-sound, step-kept, set-others, same-others, on, is-numbered, is-rejected, lower, ready-below, goes-on, runs-out, finds}
+use Rattle.search_visits.proofs.Loops.{AtThread, AtStep, Promised, enters, code-at, thread-at, thread-ready, next-there, first, ends, leaves, answers, less-than-whole, whole-written, attemptable, attempted, next-asked, next-told, set-others, same-others, on, by-promise, by-none, is-rejected, lower, ready-below, has-newest, off-again, still, goes-on, runs-out, finds}
 use Rattle.search_arrivals.proofs.Known.{Trusted, trusted-on, trusted-as, trusted-to, told-as, is-over, is-open, rest-within, still-true}
 use Rattle.step.specs.Inner.{potential}
 use Rattle.search_tries.specs.Worthwhile.{answerOnly}
+use Rattle.machine.specs.declared.Thread.{Thread}
 use Rattle.machine.specs.declared.Machine.{Machine}
 use Rattle.program.proofs.Arrays.{length-mapped}
 use borrow.Author.Needs.{needs}
-use lib.ListN.{length}
+use lib.ListN.{length, set}
 use native.Mathlib.Omega.{arith}
 use mathlib.Core.Logic.{⊎-elim}
 use mathlib.Core.Path.{_≡_, refl, ap, _∙_}
+use mathlib.Core.List.{List}
 use Prim.Native.Nat.{ℕ, _-_, _<_}
 use borrow.Fn.Kinds.{In}
 use borrow.Fn.PlainCycle.{Measures, is, falls, and}
@@ -20,6 +22,7 @@ use Rattle.search_visits.proofs.+walk.Lts-walk as walk-lts
 use Rattle.search_arrivals.proofs.arrive.Reads as arrive-reads
 use Rattle.program.proofs.Code.instr_at.Reads as instr-at-reads
 use Rattle.step.proofs.memory_after.Reads as memory-after-reads
+use Rattle.step.proofs.memory_before.Reads as memory-before-reads
 use Rattle.search_table.proofs.keep.Reads as keep-reads
 use Rattle.search_tries.proofs.after_try.Reads as after-try-reads
 use Rattle.search_tries.proofs.attempt.Reads as attempt-reads
@@ -41,32 +44,32 @@ abbrev walk-below : ℕ → In 2 walk-kinds.ps
 walk-below t = and 2 walk-kinds.ps (falls 2 walk-kinds.ps _<_ μ-walk t) walk.Pre
 
 abbrev walk-Inv-loop2 : walk-lts.InvT-loop2
-walk-Inv-loop2 first slot depth left area₀ table₀ p m y₀ rest₀ i c s w t₀ k₀ area table y rest t k = AtStep p (restored m y₀) depth left area₀ m i c s w t y area rest k × Trusted p table₀ table
+walk-Inv-loop2 first slot depth left area₀ table₀ p y₀ rest₀ i c s w t₀ k₀ area table y rest t k = AtStep p y₀ depth left area₀ i c s w t y area rest k × Trusted p table₀ table
 
 abbrev walk-μ-loop2 : walk-lts.MeasureT-loop2
-walk-μ-loop2 first slot depth left area₀ table₀ p m y₀ rest₀ i c s w t₀ k₀ area table y rest t k = 4113 - k .next
+walk-μ-loop2 first slot depth left area₀ table₀ p y₀ rest₀ i c s w t₀ k₀ area table y rest t k = 4113 - k .next
 
 abbrev walk-Inv-loop : walk-lts.InvT-loop
-walk-Inv-loop first slot depth left area₀ table₀ p m x rest₀ i₀ area table y rest i = AtThread p x depth left area₀ m y area rest i × Trusted p table₀ table
+walk-Inv-loop first slot depth left area₀ table₀ p x rest₀ i₀ area table y rest i = AtThread p x depth left area₀ y area rest i × Trusted p table₀ table
 
 abbrev walk-μ-loop : walk-lts.MeasureT-loop
-walk-μ-loop first slot depth left area₀ table₀ p m x rest₀ i₀ area table y rest i = 4 - i
+walk-μ-loop first slot depth left area₀ table₀ p x rest₀ i₀ area table y rest i = 4 - i
 
 abbrev walk-claims : ℕ → walk-lts.Claims
-walk-claims t = (instr-at-reads.Asked, instr-at-reads.Learnt, tries-of-reads.Asked, tries-of-reads.Learnt, next-try-reads.Asked, next-try-reads.Learnt, step-at-reads.Asked, step-at-reads.Learnt, attempt-reads.Asked, attempt-reads.Learnt, memory-after-reads.Asked, memory-after-reads.Learnt, arrive-reads.Asked, arrive-reads.Learnt, walk-below t, walk.Post, put-step-reads.Asked, put-step-reads.Learnt, after-try-reads.Asked, after-try-reads.Learnt, next-open-reads.Asked, next-open-reads.Learnt, keep-reads.Asked, keep-reads.Learnt)
+walk-claims t = (instr-at-reads.Asked, instr-at-reads.Learnt, tries-of-reads.Asked, tries-of-reads.Learnt, next-try-reads.Asked, next-try-reads.Learnt, step-at-reads.Asked, step-at-reads.Learnt, attempt-reads.Asked, attempt-reads.Learnt, memory-after-reads.Asked, memory-after-reads.Learnt, arrive-reads.Asked, arrive-reads.Learnt, walk-below t, walk.Post, memory-before-reads.Asked, memory-before-reads.Learnt, put-step-reads.Asked, put-step-reads.Learnt, after-try-reads.Asked, after-try-reads.Learnt, next-open-reads.Asked, next-open-reads.Learnt, keep-reads.Asked, keep-reads.Learnt)
 
 walk-sub-rest : (t : ℕ) → walk-lts.Need-sub-rest (walk-claims t) (walk-at t) walk.Post walk-Inv-loop2 walk-μ-loop2 walk-Inv-loop walk-μ-loop
-walk-sub-rest t c = let o = c .before .before .before .pre .1 .1 .some-left in omega (arith, o)
+walk-sub-rest t c = let o = c .before .before .pre .1 .1 .some-left in omega (arith, o)
 
 walk-loop-holds : (t : ℕ) → walk-lts.Need-loop-holds (walk-claims t) (walk-at t) walk.Post walk-Inv-loop2 walk-μ-loop2 walk-Inv-loop walk-μ-loop
 walk-loop-holds t c =
-    let a = c .before .before .before .args in
+    let a = c .before .before .args in
     let p = a .t1 in
     let x = a .x in
     let codes : length (p .codes) ≡ 4 = search length-mapped depth 7 in
     let threads : length (x .threads) ≡ 4 = search length-mapped depth 7 in
-    let o = c .before .before .before .pre .1 .1 in
-    (enters (c .before .before .before .pre .1 .0) (o .some-left) _ (o .next) (o .not-ended) refl codes threads, record { holds = c .before .before .before .pre .1 .2; as-long = refl })
+    let o = c .before .before .pre .1 .1 in
+    (enters (c .before .before .pre .1 .0) (o .some-left) _ (o .next) (o .not-ended) codes threads, record { holds = c .before .before .pre .1 .2; as-long = refl })
 
 walk-cast-c : (t : ℕ) → walk-lts.Need-cast-c (walk-claims t) (walk-at t) walk.Post walk-Inv-loop2 walk-μ-loop2 walk-Inv-loop walk-μ-loop
 walk-cast-c t c = search needs
@@ -90,23 +93,22 @@ walk-instr-at-requires : (t : ℕ) → walk-lts.Need-instr-at-requires (walk-cla
 walk-instr-at-requires t c κs = let u = c .before .before .before .loop .inv .0 in let h = c .before .before .loop-test .taken in next-there u h _ _ (code-at u h _) (thread-at u h _)
 
 walk-tries-of-requires : (t : ℕ) → walk-lts.Need-tries-of-requires (walk-claims t) (walk-at t) walk.Post walk-Inv-loop2 walk-μ-loop2 walk-Inv-loop walk-μ-loop
-walk-tries-of-requires t c κs = let u = c .before .before .before .before .loop .inv .0 in let h = c .before .before .before .loop-test .taken in (thread-ready u h _ _ (code-at u h _) (thread-at u h _), c .instr-at .ensures)
+walk-tries-of-requires t c κs = let u = c .before .before .before .before .before .loop .inv .0 in let h = c .before .before .before .before .loop-test .taken in (thread-ready u h _ _ (code-at u h _) (thread-at u h _), c .before .instr-at .ensures)
 
 walk-next-try-requires : (t : ℕ) → walk-lts.Need-next-try-requires (walk-claims t) (walk-at t) walk.Post walk-Inv-loop2 walk-μ-loop2 walk-Inv-loop walk-μ-loop
-walk-next-try-requires t c κs =
-    let early = c .before .before .before .before in
-    let u = early .before .loop .inv .0 in let h = early .loop-test .taken in (thread-ready u h _ _ (code-at u h _) (thread-at u h _), c .tries-of .ensures)
+walk-next-try-requires t c κs = let u = c .before .before .before .before .before .before .before .loop .inv .0 in let h = c .before .before .before .before .before .before .loop-test .taken in (thread-ready u h _ _ (code-at u h _) (thread-at u h _), c .before .tries-of .ensures)
 
 walk-loop2-holds : (t : ℕ) → walk-lts.Need-loop2-holds (walk-claims t) (walk-at t) walk.Post walk-Inv-loop2 walk-μ-loop2 walk-Inv-loop walk-μ-loop
 walk-loop2-holds t c =
-    let early = c .before .before .before .before .before in
-    let u = early .before .loop .inv .0 in let h = early .loop-test .taken in (first u h _ _ (code-at u h _) (thread-at u h _) _ (c .before .before .instr-at .ensures) _ (c .before .tries-of .ensures) _ (c .next-try .ensures), record { holds = early .before .loop .inv .1 .holds; as-long = refl })
+    let u = c .before .before .before .before .before .before .before .before .loop .inv .0 in
+    let h = c .before .before .before .before .before .before .before .loop-test .taken in
+    (first u h _ _ (code-at u h _) (thread-at u h _) _ (c .before .before .before .before .instr-at .ensures) _ (c .before .before .tries-of .ensures) _ (c .next-try .ensures), record { holds = c .before .before .before .before .before .before .before .before .loop .inv .1 .holds; as-long = refl })
 
 walk-step-at-requires : (t : ℕ) → walk-lts.Need-step-at-requires (walk-claims t) (walk-at t) walk.Post walk-Inv-loop2 walk-μ-loop2 walk-Inv-loop walk-μ-loop
 walk-step-at-requires t c κs = c .if1 .taken
 
 walk-attempt-requires : (t : ℕ) → walk-lts.Need-attempt-requires (walk-claims t) (walk-at t) walk.Post walk-Inv-loop2 walk-μ-loop2 walk-Inv-loop walk-μ-loop
-walk-attempt-requires t c κs = let u = c .before .before .before .loop2 .inv .0 in (step-ready u, u .next-is, is-numbered _ _ _ (c .step-at .ensures), step-sound u, step-kept u (c .before .if1 .taken) _ (c .step-at .ensures), u .worth)
+walk-attempt-requires t c κs = let u = c .before .before .before .before .loop2 .inv .0 in attemptable u _ (u .memory) (c .before .before .if1 .taken) _ (c .before .step-at .ensures)
 
 walk-enum-told : (t : ℕ) → walk-lts.Need-enum-told (walk-claims t) (walk-at t) walk.Post walk-Inv-loop2 walk-μ-loop2 walk-Inv-loop walk-μ-loop
 walk-enum-told t c = search needs
@@ -115,21 +117,32 @@ walk-memory-after-requires : (t : ℕ) → walk-lts.Need-memory-after-requires (
 walk-memory-after-requires t c κs = search needs
 
 walk-cast-q : (t : ℕ) → walk-lts.Need-cast-q (walk-claims t) (walk-at t) walk.Post walk-Inv-loop2 walk-μ-loop2 walk-Inv-loop walk-μ-loop
-walk-cast-q t c = omega (arith, c .before .before .before .before .before .before .before .before .before .before .before .before .before .before .before .loop-test .taken)
+walk-cast-q t c = omega (arith, c .before .before .before .before .before .before .before .before .before .before .before .before .before .before .before .before .before .before .before .loop-test .taken)
 
 walk-mul-q : (t : ℕ) → walk-lts.Need-mul-q (walk-claims t) (walk-at t) walk.Post walk-Inv-loop2 walk-μ-loop2 walk-Inv-loop walk-μ-loop
-walk-mul-q t c = let l = c .before .before .before .before .before .before .before .before .before .before .before .before .before .before .before .loop-test .taken in omega arith
+walk-mul-q t c = let l = c .before .before .before .before .before .before .before .before .before .before .before .before .before .before .before .before .before .before .before .loop-test .taken in omega arith
 
 walk-element-set-from-q : (t : ℕ) → walk-lts.Need-element-set-from-q (walk-claims t) (walk-at t) walk.Post walk-Inv-loop2 walk-μ-loop2 walk-Inv-loop walk-μ-loop
-walk-element-set-from-q t c = c .before .before .before .before .before .before .before .before .before .before .before .before .before .before .before .loop-test .taken
+walk-element-set-from-q t c = c .before .before .before .before .before .before .before .before .before .before .before .before .before .before .before .before .before .before .before .loop-test .taken
 
 walk-add-arrive : (t : ℕ) → walk-lts.Need-add-arrive (walk-claims t) (walk-at t) walk.Post walk-Inv-loop2 walk-μ-loop2 walk-Inv-loop walk-μ-loop
-walk-add-arrive t c = let r = ready-below (c .before .before .before .before .before .before .before .before .before .loop2 .inv .0) (c .before .before .before .before .before .before .before .if1 .taken) _ (c .before .before .before .before .before .before .step-at .ensures) (answerOnly (c .before .before .before .before .before .attempt .result)) (c .before .before .before .before .before .attempt .ensures .0) (c .before .before .enum-told .given .1) _ (c .before .memory-after .ensures) _ refl .room in let e = ap length (c .before .before .before .before .before .before .before .before .before .loop2 .inv .0 .same) in let f = ap length (c .before .before .before .before .before .before .before .before .before .before .before .before .before .before .before .before .loop .inv .0 .same) in omega (arith, c .before .before .before .before .before .before .before .before .before .before .before .before .before .before .before .before .before .before .before .before)
+walk-add-arrive t c =
+    let u = c .before .before .before .before .before .before .before .before .before .before .before .loop2 .inv .0 in
+    let q = attempted u _ (u .memory) _ (answerOnly (c .before .before .before .before .before .before .attempt .result)) _ (c .before .before .before .before .before .before .attempt .ensures) in
+    let taken = c .before .before .before .enum-told .given .1 in
+    let z = ⊎-elim (λ w. by-promise u (c .before .before .before .before .before .before .before .before .before .if1 .taken) _ (c .before .before .before .before .before .before .before .before .step-at .ensures) (answerOnly (c .before .before .before .before .before .before .attempt .result)) (q .0) _ (w .2 .ensures) _ (w .3)) (λ w. by-none u (c .before .before .before .before .before .before .before .before .before .if1 .taken) _ (c .before .before .before .before .before .before .before .before .step-at .ensures) (answerOnly (c .before .before .before .before .before .before .attempt .result)) (q .0) (w .0 .left) _ (w .1)) (c .before .if2 .came) in
+    let r = ready-below u (c .before .before .before .before .before .before .before .before .before .if1 .taken) _ (c .before .before .before .before .before .before .before .before .step-at .ensures) (answerOnly (c .before .before .before .before .before .before .attempt .result)) (q .0) taken _ z .room in
+    let e = ap length (u .same) in
+    let f = ap length (c .before .before .before .before .before .before .before .before .before .before .before .before .before .before .before .before .before .before .before .before .loop .inv .0 .same) in
+    omega (arith, c .before .before .before .before .before .before .before .before .before .before .before .before .before .before .before .before .before .before .before .before .before .before .before)
 
 walk-arrive-requires : (t : ℕ) → walk-lts.Need-arrive-requires (walk-claims t) (walk-at t) walk.Post walk-Inv-loop2 walk-μ-loop2 walk-Inv-loop walk-μ-loop
 walk-arrive-requires t c κs =
-    let early = c .before .before .before .before .before .before in
-    (ready-below (early .before .before .before .before .loop2 .inv .0) (early .before .before .if1 .taken) _ (early .before .step-at .ensures) (answerOnly (early .attempt .result)) (early .attempt .ensures .0) (c .before .before .before .enum-told .given .1) _ (c .before .before .memory-after .ensures) _ refl .well, early .before .before .before .before .loop2 .inv .1 .holds)
+    let u = c .before .before .before .before .before .before .before .before .before .before .before .before .loop2 .inv .0 in
+    let q = attempted u _ (u .memory) _ (answerOnly (c .before .before .before .before .before .before .before .attempt .result)) _ (c .before .before .before .before .before .before .before .attempt .ensures) in
+    let taken = c .before .before .before .before .enum-told .given .1 in
+    let z = ⊎-elim (λ w. by-promise u (c .before .before .before .before .before .before .before .before .before .before .if1 .taken) _ (c .before .before .before .before .before .before .before .before .before .step-at .ensures) (answerOnly (c .before .before .before .before .before .before .before .attempt .result)) (q .0) _ (w .2 .ensures) _ (w .3)) (λ w. by-none u (c .before .before .before .before .before .before .before .before .before .before .if1 .taken) _ (c .before .before .before .before .before .before .before .before .before .step-at .ensures) (answerOnly (c .before .before .before .before .before .before .before .attempt .result)) (q .0) (w .0 .left) _ (w .1)) (c .before .before .if2 .came) in
+    (ready-below u (c .before .before .before .before .before .before .before .before .before .before .if1 .taken) _ (c .before .before .before .before .before .before .before .before .before .step-at .ensures) (answerOnly (c .before .before .before .before .before .before .before .attempt .result)) (q .0) taken _ z .well, c .before .before .before .before .before .before .before .before .before .before .before .before .loop2 .inv .1 .holds)
 
 walk-enum-known-o : (t : ℕ) → walk-lts.Need-enum-known-o (walk-claims t) (walk-at t) walk.Post walk-Inv-loop2 walk-μ-loop2 walk-Inv-loop walk-μ-loop
 walk-enum-known-o t c = search needs
@@ -138,10 +151,32 @@ walk-enum-known-f : (t : ℕ) → walk-lts.Need-enum-known-f (walk-claims t) (wa
 walk-enum-known-f t c = search needs
 
 walk-add-walk : (t : ℕ) → walk-lts.Need-add-walk (walk-claims t) (walk-at t) walk.Post walk-Inv-loop2 walk-μ-loop2 walk-Inv-loop walk-μ-loop
-walk-add-walk t c = let r = ready-below (c .before .before .before .before .before .before .before .before .before .before .before .before .before .before .loop2 .inv .0) (c .before .before .before .before .before .before .before .before .before .before .before .before .if1 .taken) _ (c .before .before .before .before .before .before .before .before .before .before .before .step-at .ensures) (answerOnly (c .before .before .before .before .before .before .before .before .before .before .attempt .result)) (c .before .before .before .before .before .before .before .before .before .before .attempt .ensures .0) (c .before .before .before .before .before .before .before .enum-told .given .1) _ (c .before .before .before .before .before .before .memory-after .ensures) _ refl .room in let e = ap length (c .before .before .before .before .before .before .before .before .before .before .before .before .before .before .loop2 .inv .0 .same) in let f = ap length (c .before .before .before .before .before .before .before .before .before .before .before .before .before .before .before .before .before .before .before .before .before .loop .inv .0 .same) in omega (arith, c .before .before .before .before .before .before .before .before .before .before .before .before .before .before .before .before .before .before .before .before .before .before .before .before .before)
+walk-add-walk t c =
+    let u = c .before .before .before .before .before .before .before .before .before .before .before .before .before .before .before .before .loop2 .inv .0 in
+    let q = attempted u _ (u .memory) _ (answerOnly (c .before .before .before .before .before .before .before .before .before .before .before .attempt .result)) _ (c .before .before .before .before .before .before .before .before .before .before .before .attempt .ensures) in
+    let taken = c .before .before .before .before .before .before .before .before .enum-told .given .1 in
+    let z = ⊎-elim (λ w. by-promise u (c .before .before .before .before .before .before .before .before .before .before .before .before .before .before .if1 .taken) _ (c .before .before .before .before .before .before .before .before .before .before .before .before .before .step-at .ensures) (answerOnly (c .before .before .before .before .before .before .before .before .before .before .before .attempt .result)) (q .0) _ (w .2 .ensures) _ (w .3)) (λ w. by-none u (c .before .before .before .before .before .before .before .before .before .before .before .before .before .before .if1 .taken) _ (c .before .before .before .before .before .before .before .before .before .before .before .before .before .step-at .ensures) (answerOnly (c .before .before .before .before .before .before .before .before .before .before .before .attempt .result)) (q .0) (w .0 .left) _ (w .1)) (c .before .before .before .before .before .before .if2 .came) in
+    let r = ready-below u (c .before .before .before .before .before .before .before .before .before .before .before .before .before .before .if1 .taken) _ (c .before .before .before .before .before .before .before .before .before .before .before .before .before .step-at .ensures) (answerOnly (c .before .before .before .before .before .before .before .before .before .before .before .attempt .result)) (q .0) taken _ z .room in
+    let e = ap length (u .same) in
+    let f = ap length (c .before .before .before .before .before .before .before .before .before .before .before .before .before .before .before .before .before .before .before .before .before .before .before .before .before .loop .inv .0 .same) in
+    omega (arith, c .before .before .before .before .before .before .before .before .before .before .before .before .before .before .before .before .before .before .before .before .before .before .before .before .before .before .before .before)
 
 walk-walk-requires : (t : ℕ) → walk-lts.Need-walk-requires (walk-claims t) (walk-at t) walk.Post walk-Inv-loop2 walk-μ-loop2 walk-Inv-loop walk-μ-loop
-walk-walk-requires t c κs = (let l = less-than-whole (c .before .before .before .before .before .before .before .before .before .before .before .before .before .before .before .before .before .before .before .before .before .before .before .loop .inv .0) _ (lower (c .before .before .before .before .before .before .before .before .before .before .before .before .before .before .before .before .loop2 .inv .0) (c .before .before .before .before .before .before .before .before .before .before .before .before .before .before .if1 .taken) _ (c .before .before .before .before .before .before .before .before .before .before .before .before .before .step-at .ensures) (answerOnly (c .before .before .before .before .before .before .before .before .before .before .before .before .attempt .result)) (c .before .before .before .before .before .before .before .before .before .before .before .before .attempt .ensures .0) (c .before .before .before .before .before .before .before .before .before .enum-told .given .1) _ (c .before .before .before .before .before .before .before .before .memory-after .ensures) _ refl) in omega (arith, c .before .before .before .before .before .before .before .before .before .before .before .before .before .before .before .before .before .before .before .before .before .before .before .before .before .before .before .pre .0), (ready-below (c .before .before .before .before .before .before .before .before .before .before .before .before .before .before .before .before .loop2 .inv .0) (c .before .before .before .before .before .before .before .before .before .before .before .before .before .before .if1 .taken) _ (c .before .before .before .before .before .before .before .before .before .before .before .before .before .step-at .ensures) (answerOnly (c .before .before .before .before .before .before .before .before .before .before .before .before .attempt .result)) (c .before .before .before .before .before .before .before .before .before .before .before .before .attempt .ensures .0) (c .before .before .before .before .before .before .before .before .before .enum-told .given .1) _ (c .before .before .before .before .before .before .before .before .memory-after .ensures) _ refl, is-open _ _ _ _ _ _ (c .before .before .before .before .before .arrive .ensures) _ _ (c .before .before .before .f .given .1), c .before .before .before .before .before .before .before .before .before .before .before .before .before .before .before .before .loop2 .inv .1 .holds))
+walk-walk-requires t c κs =
+    let u = c .before .before .before .before .before .before .before .before .before .before .before .before .before .before .before .before .before .before .loop2 .inv .0 in
+    let q = attempted u _ (u .memory) _ (answerOnly (c .before .before .before .before .before .before .before .before .before .before .before .before .before .attempt .result)) _ (c .before .before .before .before .before .before .before .before .before .before .before .before .before .attempt .ensures) in
+    let taken = c .before .before .before .before .before .before .before .before .before .before .enum-told .given .1 in
+    let z = ⊎-elim (λ w. by-promise u (c .before .before .before .before .before .before .before .before .before .before .before .before .before .before .before .before .if1 .taken) _ (c .before .before .before .before .before .before .before .before .before .before .before .before .before .before .before .step-at .ensures) (answerOnly (c .before .before .before .before .before .before .before .before .before .before .before .before .before .attempt .result)) (q .0) _ (w .2 .ensures) _ (w .3)) (λ w. by-none u (c .before .before .before .before .before .before .before .before .before .before .before .before .before .before .before .before .if1 .taken) _ (c .before .before .before .before .before .before .before .before .before .before .before .before .before .before .before .step-at .ensures) (answerOnly (c .before .before .before .before .before .before .before .before .before .before .before .before .before .attempt .result)) (q .0) (w .0 .left) _ (w .1)) (c .before .before .before .before .before .before .before .before .if2 .came) in
+    let l = less-than-whole (c .before .before .before .before .before .before .before .before .before .before .before .before .before .before .before .before .before .before .before .before .before .before .before .before .before .before .before .loop .inv .0) _ (lower u (c .before .before .before .before .before .before .before .before .before .before .before .before .before .before .before .before .if1 .taken) _ (c .before .before .before .before .before .before .before .before .before .before .before .before .before .before .before .step-at .ensures) (answerOnly (c .before .before .before .before .before .before .before .before .before .before .before .before .before .attempt .result)) (q .0) taken _ z) in
+    (omega (arith, c .before .before .before .before .before .before .before .before .before .before .before .before .before .before .before .before .before .before .before .before .before .before .before .before .before .before .before .before .before .before .pre .0), (ready-below u (c .before .before .before .before .before .before .before .before .before .before .before .before .before .before .before .before .if1 .taken) _ (c .before .before .before .before .before .before .before .before .before .before .before .before .before .before .before .step-at .ensures) (answerOnly (c .before .before .before .before .before .before .before .before .before .before .before .before .before .attempt .result)) (q .0) taken _ z, is-open _ _ _ _ _ _ (c .before .before .before .before .before .arrive .ensures) _ _ (c .before .before .before .f .given .1), c .before .before .before .before .before .before .before .before .before .before .before .before .before .before .before .before .before .before .loop2 .inv .1 .holds))
+
+walk-memory-before-requires : (t : ℕ) → walk-lts.Need-memory-before-requires (walk-claims t) (walk-at t) walk.Post walk-Inv-loop2 walk-μ-loop2 walk-Inv-loop walk-μ-loop
+walk-memory-before-requires t c κs =
+    let u = c .before .before .before .before .before .before .before .before .before .before .before .before .before .before .before .before .before .loop2 .inv .0 in
+    let q = attempted u _ (u .memory) _ (answerOnly (c .before .before .before .before .before .before .before .before .before .before .before .before .attempt .result)) _ (c .before .before .before .before .before .before .before .before .before .before .before .before .attempt .ensures) in
+    let taken = c .before .before .before .before .before .before .before .before .before .enum-told .given .1 in
+    let z = ⊎-elim (λ w. by-promise u (c .before .before .before .before .before .before .before .before .before .before .before .before .before .before .before .if1 .taken) _ (c .before .before .before .before .before .before .before .before .before .before .before .before .before .before .step-at .ensures) (answerOnly (c .before .before .before .before .before .before .before .before .before .before .before .before .attempt .result)) (q .0) _ (w .2 .ensures) _ (w .3)) (λ w. by-none u (c .before .before .before .before .before .before .before .before .before .before .before .before .before .before .before .if1 .taken) _ (c .before .before .before .before .before .before .before .before .before .before .before .before .before .before .step-at .ensures) (answerOnly (c .before .before .before .before .before .before .before .before .before .before .before .before .attempt .result)) (q .0) (w .0 .left) _ (w .1)) (c .before .before .before .before .before .before .before .if2 .came) in
+    has-newest u (c .before .before .before .before .before .before .before .before .before .before .before .before .before .before .before .if1 .taken) _ (c .before .before .before .before .before .before .before .before .before .before .before .before .before .before .step-at .ensures) (answerOnly (c .before .before .before .before .before .before .before .before .before .before .before .before .attempt .result)) (q .0) taken _ z (c .before .if3 .taken)
 
 walk-enum-known-ran : (t : ℕ) → walk-lts.Need-enum-known-ran (walk-claims t) (walk-at t) walk.Post walk-Inv-loop2 walk-μ-loop2 walk-Inv-loop walk-μ-loop
 walk-enum-known-ran t c = search needs
@@ -150,91 +185,141 @@ walk-enum-known-ran-2 : (t : ℕ) → walk-lts.Need-enum-known-ran-2 (walk-claim
 walk-enum-known-ran-2 t c = search needs
 
 walk-mul-put-step : (t : ℕ) → walk-lts.Need-mul-put-step (walk-claims t) (walk-at t) walk.Post walk-Inv-loop2 walk-μ-loop2 walk-Inv-loop walk-μ-loop
-walk-mul-put-step t c = let r = ready-below (c .before .before .before .before .before .before .before .before .before .before .before .before .before .before .before .before .loop2 .inv .0) (c .before .before .before .before .before .before .before .before .before .before .before .before .before .before .if1 .taken) _ (c .before .before .before .before .before .before .before .before .before .before .before .before .before .step-at .ensures) (answerOnly (c .before .before .before .before .before .before .before .before .before .before .before .before .attempt .result)) (c .before .before .before .before .before .before .before .before .before .before .before .before .attempt .ensures .0) (c .before .before .before .before .before .before .before .before .before .enum-told .given .1) _ (c .before .before .before .before .before .before .before .before .memory-after .ensures) _ refl .room in let e = ap length (c .before .before .before .before .before .before .before .before .before .before .before .before .before .before .before .before .loop2 .inv .0 .same) in let f = ap length (c .before .before .before .before .before .before .before .before .before .before .before .before .before .before .before .before .before .before .before .before .before .before .before .loop .inv .0 .same) in omega (arith, c .before .before .before .before .before .before .before .before .before .before .before .before .before .before .before .before .before .before .before .before .before .before .before .before .before .before .before)
+walk-mul-put-step t c =
+    let u = c .before .before .before .before .before .before .before .before .before .before .before .before .before .before .before .before .before .before .before .before .loop2 .inv .0 in
+    let q = attempted u _ (u .memory) _ (answerOnly (c .before .before .before .before .before .before .before .before .before .before .before .before .before .before .before .attempt .result)) _ (c .before .before .before .before .before .before .before .before .before .before .before .before .before .before .before .attempt .ensures) in
+    let taken = c .before .before .before .before .before .before .before .before .before .before .before .before .enum-told .given .1 in
+    let z = ⊎-elim (λ w. by-promise u (c .before .before .before .before .before .before .before .before .before .before .before .before .before .before .before .before .before .before .if1 .taken) _ (c .before .before .before .before .before .before .before .before .before .before .before .before .before .before .before .before .before .step-at .ensures) (answerOnly (c .before .before .before .before .before .before .before .before .before .before .before .before .before .before .before .attempt .result)) (q .0) _ (w .2 .ensures) _ (w .3)) (λ w. by-none u (c .before .before .before .before .before .before .before .before .before .before .before .before .before .before .before .before .before .before .if1 .taken) _ (c .before .before .before .before .before .before .before .before .before .before .before .before .before .before .before .before .before .step-at .ensures) (answerOnly (c .before .before .before .before .before .before .before .before .before .before .before .before .before .before .before .attempt .result)) (q .0) (w .0 .left) _ (w .1)) (c .before .before .before .before .before .before .before .before .before .before .if2 .came) in
+    let r = ready-below u (c .before .before .before .before .before .before .before .before .before .before .before .before .before .before .before .before .before .before .if1 .taken) _ (c .before .before .before .before .before .before .before .before .before .before .before .before .before .before .before .before .before .step-at .ensures) (answerOnly (c .before .before .before .before .before .before .before .before .before .before .before .before .before .before .before .attempt .result)) (q .0) taken _ z .room in
+    let e = ap length (u .same) in
+    let f = ap length (c .before .before .before .before .before .before .before .before .before .before .before .before .before .before .before .before .before .before .before .before .before .before .before .before .before .before .before .before .before .loop .inv .0 .same) in
+    omega (arith, c .before .before .before .before .before .before .before .before .before .before .before .before .before .before .before .before .before .before .before .before .before .before .before .before .before .before .before .before .before .before .before .before)
 
 walk-put-step-requires : (t : ℕ) → walk-lts.Need-put-step-requires (walk-claims t) (walk-at t) walk.Post walk-Inv-loop2 walk-μ-loop2 walk-Inv-loop walk-μ-loop
-walk-put-step-requires t c κs = let r = ready-below (c .before .before .before .before .before .before .before .before .before .before .before .before .before .before .before .before .loop2 .inv .0) (c .before .before .before .before .before .before .before .before .before .before .before .before .before .before .if1 .taken) _ (c .before .before .before .before .before .before .before .before .before .before .before .before .before .step-at .ensures) (answerOnly (c .before .before .before .before .before .before .before .before .before .before .before .before .attempt .result)) (c .before .before .before .before .before .before .before .before .before .before .before .before .attempt .ensures .0) (c .before .before .before .before .before .before .before .before .before .enum-told .given .1) _ (c .before .before .before .before .before .before .before .before .memory-after .ensures) _ refl .room in let l : length (c .before .before .before .before .match2 .area) ≡ length (c .before .before .before .before .before .before .before .before .before .before .before .before .before .before .before .before .loop2 .area) = (⊎-elim (λ v. ap length (v .3)) (λ v. ap length (v .10) ∙ v .5 .kept .1 .1 .1 .1 .1 .1 .0) (c .before .before .before .before .match2 .came)) in omega arith
+walk-put-step-requires t c κs =
+    let u = c .before .before .before .before .before .before .before .before .before .before .before .before .before .before .before .before .before .before .before .before .loop2 .inv .0 in
+    let q = attempted u _ (u .memory) _ (answerOnly (c .before .before .before .before .before .before .before .before .before .before .before .before .before .before .before .attempt .result)) _ (c .before .before .before .before .before .before .before .before .before .before .before .before .before .before .before .attempt .ensures) in
+    let taken = c .before .before .before .before .before .before .before .before .before .before .before .before .enum-told .given .1 in
+    let z = ⊎-elim (λ w. by-promise u (c .before .before .before .before .before .before .before .before .before .before .before .before .before .before .before .before .before .before .if1 .taken) _ (c .before .before .before .before .before .before .before .before .before .before .before .before .before .before .before .before .before .step-at .ensures) (answerOnly (c .before .before .before .before .before .before .before .before .before .before .before .before .before .before .before .attempt .result)) (q .0) _ (w .2 .ensures) _ (w .3)) (λ w. by-none u (c .before .before .before .before .before .before .before .before .before .before .before .before .before .before .before .before .before .before .if1 .taken) _ (c .before .before .before .before .before .before .before .before .before .before .before .before .before .before .before .before .before .step-at .ensures) (answerOnly (c .before .before .before .before .before .before .before .before .before .before .before .before .before .before .before .attempt .result)) (q .0) (w .0 .left) _ (w .1)) (c .before .before .before .before .before .before .before .before .before .before .if2 .came) in
+    let r = ready-below u (c .before .before .before .before .before .before .before .before .before .before .before .before .before .before .before .before .before .before .if1 .taken) _ (c .before .before .before .before .before .before .before .before .before .before .before .before .before .before .before .before .before .step-at .ensures) (answerOnly (c .before .before .before .before .before .before .before .before .before .before .before .before .before .before .before .attempt .result)) (q .0) taken _ z .room in
+    let l : length (c .before .before .before .before .before .before .match2 .area) ≡ length (c .before .before .before .before .before .before .before .before .before .before .before .before .before .before .before .before .before .before .before .before .loop2 .area) = (⊎-elim (λ v. ap length (v .3)) (λ v. ap length (v .10) ∙ v .5 .kept .1 .1 .1 .1 .1 .1 .0) (c .before .before .before .before .before .before .match2 .came)) in
+    omega arith
 
 walk-same-length : (t : ℕ) → walk-lts.Need-same-length (walk-claims t) (walk-at t) walk.Post walk-Inv-loop2 walk-μ-loop2 walk-Inv-loop walk-μ-loop
-walk-same-length t c =
-    let early = c .before .before .before .before .before .before .before in
-    c .before .before .put-step .kept .0 ∙ (⊎-elim (λ v. ap length (v .3)) (λ v. ap length (v .10) ∙ v .5 .kept .1 .1 .1 .1 .1 .1 .0) (early .match2 .came)) ∙ ap length (early .before .before .before .before .before .before .before .before .before .before .before .before .loop2 .inv .0 .same) ∙ ap length (early .before .before .before .before .before .before .before .before .before .before .before .before .before .before .before .before .before .before .before .loop .inv .0 .same)
+walk-same-length t c = c .before .before .put-step .kept .0 ∙ (⊎-elim (λ v. ap length (v .3)) (λ v. ap length (v .10) ∙ v .5 .kept .1 .1 .1 .1 .1 .1 .0) (c .before .before .before .before .before .before .before .before .before .match2 .came)) ∙ ap length (c .before .before .before .before .before .before .before .before .before .before .before .before .before .before .before .before .before .before .before .before .before .before .before .loop2 .inv .0 .same) ∙ ap length (c .before .before .before .before .before .before .before .before .before .before .before .before .before .before .before .before .before .before .before .before .before .before .before .before .before .before .before .before .before .before .before .before .loop .inv .0 .same)
 
 walk-same-length-2 : (t : ℕ) → walk-lts.Need-same-length-2 (walk-claims t) (walk-at t) walk.Post walk-Inv-loop2 walk-μ-loop2 walk-Inv-loop walk-μ-loop
-walk-same-length-2 t c =
-    let early = c .before .before .before .before .before .before .before in
-    trusted-on (early .before .before .before .before .before .before .before .before .before .before .before .before .before .before .before .before .before .before .before .loop .inv .1) (trusted-on (early .before .before .before .before .before .before .before .before .before .before .before .before .loop2 .inv .1) (⊎-elim (λ v. trusted-as (early .before .before .before .before .before .before .before .before .before .before .before .before .loop2 .inv .1 .holds) refl (v .4)) (λ v. trusted-as (v .5 .ensures .1) (v .5 .kept .1 .1 .1 .1 .1 .1 .1 .0) (v .11)) (early .match2 .came))) .as-long
+walk-same-length-2 t c = trusted-on (c .before .before .before .before .before .before .before .before .before .before .before .before .before .before .before .before .before .before .before .before .before .before .before .before .before .before .before .before .before .before .before .before .loop .inv .1) (trusted-on (c .before .before .before .before .before .before .before .before .before .before .before .before .before .before .before .before .before .before .before .before .before .before .before .loop2 .inv .1) (⊎-elim (λ v. trusted-as (c .before .before .before .before .before .before .before .before .before .before .before .before .before .before .before .before .before .before .before .before .before .before .before .loop2 .inv .1 .holds) refl (v .4)) (λ v. trusted-as (v .5 .ensures .1) (v .5 .kept .1 .1 .1 .1 .1 .1 .1 .0) (v .11)) (c .before .before .before .before .before .before .before .before .before .match2 .came))) .as-long
 
 walk-returns : (t : ℕ) → walk-lts.Need-returns (walk-claims t) (walk-at t) walk.Post walk-Inv-loop2 walk-μ-loop2 walk-Inv-loop walk-μ-loop
 walk-returns t c =
-    let early = c .before .before .before .before .before in
-    (answers (early .before .before .before .before .before .before .before .before .before .before .before .before .before .before .before .before .before .before .before .before .before .loop .inv .0) (finds (early .before .before .before .before .before .before .before .before .before .before .before .before .before .before .loop2 .inv .0) (early .before .before .before .before .before .before .before .before .before .before .before .before .if1 .taken) _ (early .before .before .before .before .before .before .before .before .before .before .before .step-at .ensures) (answerOnly (early .before .before .before .before .before .before .before .before .before .before .attempt .result)) (early .before .before .before .before .before .before .before .before .before .before .attempt .ensures .0) (early .before .before .before .before .before .before .before .enum-told .given .1) _ (early .before .before .before .before .before .before .memory-after .ensures) _ refl (early .before .before .match2 .ran) (early .before .before .match2 .area) (⊎-elim (λ v. is-over _ _ _ _ _ _ (early .before .before .before .arrive .ensures) _ _ (v .1 .given .1) (v .5) _ _ (v .3)) (λ v. told-as (v .5 .ensures .0) (v .12) (v .10)) (early .before .before .match2 .came)) _ _ (early .ran2 .given .1) _ (c .before .before .put-step .ensures)), trusted-on (early .before .before .before .before .before .before .before .before .before .before .before .before .before .before .loop2 .inv .1) (⊎-elim (λ v. trusted-as (early .before .before .before .before .before .before .before .before .before .before .before .before .before .before .loop2 .inv .1 .holds) refl (v .4)) (λ v. trusted-as (v .5 .ensures .1) (v .5 .kept .1 .1 .1 .1 .1 .1 .1 .0) (v .11)) (early .before .before .match2 .came)) .holds)
+    let u = c .before .before .before .before .before .before .before .before .before .before .before .before .before .before .before .before .before .before .before .before .before .before .before .loop2 .inv .0 in
+    let q = attempted u _ (u .memory) _ (answerOnly (c .before .before .before .before .before .before .before .before .before .before .before .before .before .before .before .before .before .before .attempt .result)) _ (c .before .before .before .before .before .before .before .before .before .before .before .before .before .before .before .before .before .before .attempt .ensures) in
+    let taken = c .before .before .before .before .before .before .before .before .before .before .before .before .before .before .before .enum-told .given .1 in
+    let z = ⊎-elim (λ w. by-promise u (c .before .before .before .before .before .before .before .before .before .before .before .before .before .before .before .before .before .before .before .before .before .if1 .taken) _ (c .before .before .before .before .before .before .before .before .before .before .before .before .before .before .before .before .before .before .before .before .step-at .ensures) (answerOnly (c .before .before .before .before .before .before .before .before .before .before .before .before .before .before .before .before .before .before .attempt .result)) (q .0) _ (w .2 .ensures) _ (w .3)) (λ w. by-none u (c .before .before .before .before .before .before .before .before .before .before .before .before .before .before .before .before .before .before .before .before .before .if1 .taken) _ (c .before .before .before .before .before .before .before .before .before .before .before .before .before .before .before .before .before .before .before .before .step-at .ensures) (answerOnly (c .before .before .before .before .before .before .before .before .before .before .before .before .before .before .before .before .before .before .attempt .result)) (q .0) (w .0 .left) _ (w .1)) (c .before .before .before .before .before .before .before .before .before .before .before .before .before .if2 .came) in
+    (answers (c .before .before .before .before .before .before .before .before .before .before .before .before .before .before .before .before .before .before .before .before .before .before .before .before .before .before .before .before .before .before .before .before .loop .inv .0) (finds u (c .before .before .before .before .before .before .before .before .before .before .before .before .before .before .before .before .before .before .before .before .before .if1 .taken) _ (c .before .before .before .before .before .before .before .before .before .before .before .before .before .before .before .before .before .before .before .before .step-at .ensures) (answerOnly (c .before .before .before .before .before .before .before .before .before .before .before .before .before .before .before .before .before .before .attempt .result)) (q .0) taken _ z (c .before .before .before .before .before .before .before .before .before .match2 .ran) (c .before .before .before .before .before .before .before .before .before .match2 .area) (⊎-elim (λ v. is-over _ _ _ _ _ _ (c .before .before .before .before .before .before .before .before .before .before .arrive .ensures) _ _ (v .1 .given .1) (v .5) _ _ (v .3)) (λ v. told-as (v .5 .ensures .0) (v .12) (v .10)) (c .before .before .before .before .before .before .before .before .before .match2 .came)) _ _ (c .before .before .before .before .before .ran2 .given .1) _ (c .before .before .put-step .ensures)), trusted-on (c .before .before .before .before .before .before .before .before .before .before .before .before .before .before .before .before .before .before .before .before .before .before .before .loop2 .inv .1) (⊎-elim (λ v. trusted-as (c .before .before .before .before .before .before .before .before .before .before .before .before .before .before .before .before .before .before .before .before .before .before .before .loop2 .inv .1 .holds) refl (v .4)) (λ v. trusted-as (v .5 .ensures .1) (v .5 .kept .1 .1 .1 .1 .1 .1 .1 .0) (v .11)) (c .before .before .before .before .before .before .before .before .before .match2 .came)) .holds)
 
 walk-enum-told-2 : (t : ℕ) → walk-lts.Need-enum-told-2 (walk-claims t) (walk-at t) walk.Post walk-Inv-loop2 walk-μ-loop2 walk-Inv-loop walk-μ-loop
 walk-enum-told-2 t c = search needs
 
 walk-same-length-3 : (t : ℕ) → walk-lts.Need-same-length-3 (walk-claims t) (walk-at t) walk.Post walk-Inv-loop2 walk-μ-loop2 walk-Inv-loop walk-μ-loop
-walk-same-length-3 t c =
-    let early = c .before .before .before .before .before .before .before .before .before .before .before .before .before .before in
-    (⊎-elim (λ v. ap length (v .3)) (λ v. ap length (v .10) ∙ v .5 .kept .1 .1 .1 .1 .1 .1 .0) (c .before .before .match2 .came)) ∙ ap length (early .loop2 .inv .0 .same) ∙ ap length (early .before .before .before .before .before .before .before .loop .inv .0 .same)
+walk-same-length-3 t c = (⊎-elim (λ v. ap length (v .3)) (λ v. ap length (v .10) ∙ v .5 .kept .1 .1 .1 .1 .1 .1 .0) (c .before .before .before .before .match2 .came)) ∙ ap length (c .before .before .before .before .before .before .before .before .before .before .before .before .before .before .before .before .before .before .loop2 .inv .0 .same) ∙ ap length (c .before .before .before .before .before .before .before .before .before .before .before .before .before .before .before .before .before .before .before .before .before .before .before .before .before .before .before .loop .inv .0 .same)
 
 walk-same-length-4 : (t : ℕ) → walk-lts.Need-same-length-4 (walk-claims t) (walk-at t) walk.Post walk-Inv-loop2 walk-μ-loop2 walk-Inv-loop walk-μ-loop
-walk-same-length-4 t c =
-    let early = c .before .before .before .before .before .before .before .before .before .before .before .before .before .before in
-    trusted-on (early .before .before .before .before .before .before .before .loop .inv .1) (trusted-on (early .loop2 .inv .1) (⊎-elim (λ v. trusted-as (early .loop2 .inv .1 .holds) refl (v .4)) (λ v. trusted-as (v .5 .ensures .1) (v .5 .kept .1 .1 .1 .1 .1 .1 .1 .0) (v .11)) (c .before .before .match2 .came))) .as-long
+walk-same-length-4 t c = trusted-on (c .before .before .before .before .before .before .before .before .before .before .before .before .before .before .before .before .before .before .before .before .before .before .before .before .before .before .before .loop .inv .1) (trusted-on (c .before .before .before .before .before .before .before .before .before .before .before .before .before .before .before .before .before .before .loop2 .inv .1) (⊎-elim (λ v. trusted-as (c .before .before .before .before .before .before .before .before .before .before .before .before .before .before .before .before .before .before .loop2 .inv .1 .holds) refl (v .4)) (λ v. trusted-as (v .5 .ensures .1) (v .5 .kept .1 .1 .1 .1 .1 .1 .1 .0) (v .11)) (c .before .before .before .before .match2 .came))) .as-long
 
 walk-returns-2 : (t : ℕ) → walk-lts.Need-returns-2 (walk-claims t) (walk-at t) walk.Post walk-Inv-loop2 walk-μ-loop2 walk-Inv-loop walk-μ-loop
 walk-returns-2 t c =
-    let early = c .before .before .before .before .before .before in
-    (answers (early .before .before .before .before .before .before .before .before .before .before .before .before .before .before .before .loop .inv .0) (runs-out (early .before .before .before .before .before .before .before .before .loop2 .inv .0) (early .before .before .before .before .before .before .if1 .taken) _ (early .before .before .before .before .before .step-at .ensures) (answerOnly (early .before .before .before .before .attempt .result)) (early .before .before .before .before .attempt .ensures .0) (early .before .enum-told .given .1) _ (early .memory-after .ensures) _ refl (c .before .before .match2 .ran) (c .before .before .match2 .area) (⊎-elim (λ v. is-over _ _ _ _ _ _ (c .before .before .before .arrive .ensures) _ _ (v .1 .given .1) (v .5) _ _ (v .3)) (λ v. told-as (v .5 .ensures .0) (v .12) (v .10)) (c .before .before .match2 .came)) (c .enum-told2 .given .1)), trusted-on (early .before .before .before .before .before .before .before .before .loop2 .inv .1) (⊎-elim (λ v. trusted-as (early .before .before .before .before .before .before .before .before .loop2 .inv .1 .holds) refl (v .4)) (λ v. trusted-as (v .5 .ensures .1) (v .5 .kept .1 .1 .1 .1 .1 .1 .1 .0) (v .11)) (c .before .before .match2 .came)) .holds)
+    let u = c .before .before .before .before .before .before .before .before .before .before .before .before .before .before .before .before .before .before .loop2 .inv .0 in
+    let q = attempted u _ (u .memory) _ (answerOnly (c .before .before .before .before .before .before .before .before .before .before .before .before .before .attempt .result)) _ (c .before .before .before .before .before .before .before .before .before .before .before .before .before .attempt .ensures) in
+    let taken = c .before .before .before .before .before .before .before .before .before .before .enum-told .given .1 in
+    let z = ⊎-elim (λ w. by-promise u (c .before .before .before .before .before .before .before .before .before .before .before .before .before .before .before .before .if1 .taken) _ (c .before .before .before .before .before .before .before .before .before .before .before .before .before .before .before .step-at .ensures) (answerOnly (c .before .before .before .before .before .before .before .before .before .before .before .before .before .attempt .result)) (q .0) _ (w .2 .ensures) _ (w .3)) (λ w. by-none u (c .before .before .before .before .before .before .before .before .before .before .before .before .before .before .before .before .if1 .taken) _ (c .before .before .before .before .before .before .before .before .before .before .before .before .before .before .before .step-at .ensures) (answerOnly (c .before .before .before .before .before .before .before .before .before .before .before .before .before .attempt .result)) (q .0) (w .0 .left) _ (w .1)) (c .before .before .before .before .before .before .before .before .if2 .came) in
+    (answers (c .before .before .before .before .before .before .before .before .before .before .before .before .before .before .before .before .before .before .before .before .before .before .before .before .before .before .before .loop .inv .0) (runs-out u (c .before .before .before .before .before .before .before .before .before .before .before .before .before .before .before .before .if1 .taken) _ (c .before .before .before .before .before .before .before .before .before .before .before .before .before .before .before .step-at .ensures) (answerOnly (c .before .before .before .before .before .before .before .before .before .before .before .before .before .attempt .result)) (q .0) taken _ z (c .before .before .before .before .match2 .ran) (c .before .before .before .before .match2 .area) (⊎-elim (λ v. is-over _ _ _ _ _ _ (c .before .before .before .before .before .arrive .ensures) _ _ (v .1 .given .1) (v .5) _ _ (v .3)) (λ v. told-as (v .5 .ensures .0) (v .12) (v .10)) (c .before .before .before .before .match2 .came)) (c .enum-told2 .given .1)), trusted-on (c .before .before .before .before .before .before .before .before .before .before .before .before .before .before .before .before .before .before .loop2 .inv .1) (⊎-elim (λ v. trusted-as (c .before .before .before .before .before .before .before .before .before .before .before .before .before .before .before .before .before .before .loop2 .inv .1 .holds) refl (v .4)) (λ v. trusted-as (v .5 .ensures .1) (v .5 .kept .1 .1 .1 .1 .1 .1 .1 .0) (v .11)) (c .before .before .before .before .match2 .came)) .holds)
 
 walk-enum-told-3 : (t : ℕ) → walk-lts.Need-enum-told-3 (walk-claims t) (walk-at t) walk.Post walk-Inv-loop2 walk-μ-loop2 walk-Inv-loop walk-μ-loop
 walk-enum-told-3 t c = search needs
 
+-- after a step the memory is as it was before
+memory-again : (t : ℕ) (c : walk-lts.At-match-came (walk-claims t) (walk-at t) walk.Post walk-Inv-loop2 walk-μ-loop2 walk-Inv-loop walk-μ-loop) → (c .match .y) .memory ≡ (c .before .before .before .before .before .before .before .before .before .before .before .before .before .before .before .before .loop .y) .memory
+memory-again t c =
+    let u = c .before .before .before .before .before .before .before .loop2 .inv .0 in
+    let q = attempted u _ (u .memory) _ (answerOnly (c .before .before .attempt .result)) _ (c .before .before .attempt .ensures) in
+    ⊎-elim
+    (λ w. (
+    let taken = w .1 .given .1 in
+    let z = ⊎-elim (λ v. by-promise u (c .before .before .before .before .before .if1 .taken) _ (c .before .before .before .before .step-at .ensures) (answerOnly (c .before .before .attempt .result)) (q .0) _ (v .2 .ensures) _ (v .3)) (λ v. by-none u (c .before .before .before .before .before .if1 .taken) _ (c .before .before .before .before .step-at .ensures) (answerOnly (c .before .before .attempt .result)) (q .0) (v .0 .left) _ (v .1)) (w .3 .came) in
+    ap (λ (o : Machine). o .memory) (w .15)
+    ∙ ⊎-elim (λ v. ap (λ (o : Machine). o .memory) (v .3) ∙ v .2 .ensures ∙ off-again u (c .before .before .before .before .before .if1 .taken) _ (c .before .before .before .before .step-at .ensures) (answerOnly (c .before .before .attempt .result)) (q .0) taken _ z (v .0 .taken))
+    (λ v. ap (λ (o : Machine). o .memory) (v .1) ∙ still u (c .before .before .before .before .before .if1 .taken) _ (c .before .before .before .before .step-at .ensures) (answerOnly (c .before .before .attempt .result)) (q .0) taken _ z (v .0 .left))
+    (w .9 .came)
+    ))
+    (λ w. ap (λ (o : Machine). o .memory) (w .4) ∙ u .memory)
+    (c .match .came)
+
+-- and the other threads are
+others-again : (t : ℕ) (c : walk-lts.At-match-came (walk-claims t) (walk-at t) walk.Post walk-Inv-loop2 walk-μ-loop2 walk-Inv-loop walk-μ-loop) → (o : Thread) → set ((c .match .y) .threads) (c .before .before .before .before .before .before .before .before .before .before .before .before .before .before .before .before .loop .i) o ≡ set ((c .before .before .before .before .before .before .before .before .before .before .before .before .before .before .before .before .loop .y) .threads) (c .before .before .before .before .before .before .before .before .before .before .before .before .before .before .before .before .loop .i) o
+others-again t c =
+    let u = c .before .before .before .before .before .before .before .loop2 .inv .0 in
+    let q = attempted u _ (u .memory) _ (answerOnly (c .before .before .attempt .result)) _ (c .before .before .attempt .ensures) in
+    ⊎-elim
+    (λ w. (
+    let z = ⊎-elim (λ v. by-promise u (c .before .before .before .before .before .if1 .taken) _ (c .before .before .before .before .step-at .ensures) (answerOnly (c .before .before .attempt .result)) (q .0) _ (v .2 .ensures) _ (v .3)) (λ v. by-none u (c .before .before .before .before .before .if1 .taken) _ (c .before .before .before .before .step-at .ensures) (answerOnly (c .before .before .attempt .result)) (q .0) (v .0 .left) _ (v .1)) (w .3 .came) in
+    set-others u (c .before .before .attempt .result .thread) (c .match .y)
+    (ap (λ (o : Machine). o .threads) (w .15)
+    ∙ ⊎-elim (λ v. ap (λ (o : Machine). o .threads) (v .3)) (λ v. ap (λ (o : Machine). o .threads) (v .1)) (w .9 .came)
+    ∙ ap (λ (l : List Thread). set l (c .before .before .before .before .before .before .before .before .before .before .before .before .before .before .before .before .loop .i) (c .before .before .attempt .result .thread)) (z .threads))
+    ))
+    (λ w. same-others u (c .match .y) (w .4))
+    (c .match .came)
+
 walk-after-try-requires : (t : ℕ) → walk-lts.Need-after-try-requires (walk-claims t) (walk-at t) walk.Post walk-Inv-loop2 walk-μ-loop2 walk-Inv-loop walk-μ-loop
 walk-after-try-requires t c κs =
-    let early = c .before .before .before .before in
-    let u = early .before .before .loop2 .inv .0 in (step-ready u, (c .before .before .attempt .ensures .1, (u .ahead, early .if1 .taken)))
+    let u = c .before .before .before .before .before .before .before .before .loop2 .inv .0 in
+    let q = attempted u _ (u .memory) _ (answerOnly (c .before .before .before .attempt .result)) _ (c .before .before .before .attempt .ensures) in
+    next-asked u _ (memory-again t (c .before)) _ (q .1) (c .before .before .before .before .before .before .if1 .taken)
 
 walk-loop2-less : (t : ℕ) → walk-lts.Need-loop2-less (walk-claims t) (walk-at t) walk.Post walk-Inv-loop2 walk-μ-loop2 walk-Inv-loop walk-μ-loop
-walk-loop2-less t c = let l = c .before .before .before .before .before .if1 .taken in let a = c .after-try .ensures .0 .after (omega arith) in omega arith
+walk-loop2-less t c = let l = c .before .before .before .before .before .before .before .if1 .taken in let a = c .after-try .ensures .0 .after (omega arith) in omega arith
 
 walk-loop2-again : (t : ℕ) → walk-lts.Need-loop2-again (walk-claims t) (walk-at t) walk.Post walk-Inv-loop2 walk-μ-loop2 walk-Inv-loop walk-μ-loop
 walk-loop2-again t c =
-    let early = c .before .before .before .before in
+    let u = c .before .before .before .before .before .before .before .before .before .loop2 .inv .0 in
+    let q = attempted u _ (u .memory) _ (answerOnly (c .before .before .before .before .attempt .result)) _ (c .before .before .before .before .attempt .ensures) in
+    let same-memory = memory-again t (c .before .before) in
+    let nx = next-told u _ same-memory _ (c .after-try .ensures) in
     ⊎-elim
     (λ w. (
-      on (early .before .before .before .loop2 .inv .0) _ (c .before .before .before .attempt .ensures .1) _ _ _ _ _ (c .before .match .y) (set-others (early .before .before .before .loop2 .inv .0) (c .before .before .before .attempt .result .thread) (c .before .match .y) (ap (λ (z : Machine). z .threads) (w .12))) (early .before .if1 .taken) (goes-on (early .before .before .before .loop2 .inv .0) (early .before .if1 .taken) _ (early .step-at .ensures) (answerOnly (c .before .before .before .attempt .result)) (c .before .before .before .attempt .ensures .0) (w .1 .given .1) _ (w .2 .ensures) _ refl (w .6 .ran) (w .6 .area) (⊎-elim (λ v. is-over _ _ _ _ _ _ (w .5 .ensures) _ _ (v .1 .given .1) (v .5) _ _ (v .3)) (λ v. told-as (v .5 .ensures .0) (v .12) (v .10)) (w .6 .came)) _ (w .8 .given .1)) (w .10) (w .13) (c .after-try .ensures),
-      trusted-to (trusted-on (early .before .before .before .loop2 .inv .1) (⊎-elim (λ v. trusted-as (early .before .before .before .loop2 .inv .1 .holds) refl (v .4)) (λ v. trusted-as (v .5 .ensures .1) (v .5 .kept .1 .1 .1 .1 .1 .1 .1 .0) (v .11)) (w .6 .came))) (w .11),
+      let taken = w .1 .given .1 in
+          let z = ⊎-elim (λ v. by-promise u (c .before .before .before .before .before .before .before .if1 .taken) _ (c .before .before .before .before .before .before .step-at .ensures) (answerOnly (c .before .before .before .before .attempt .result)) (q .0) _ (v .2 .ensures) _ (v .3)) (λ v. by-none u (c .before .before .before .before .before .before .before .if1 .taken) _ (c .before .before .before .before .before .before .step-at .ensures) (answerOnly (c .before .before .before .before .attempt .result)) (q .0) (v .0 .left) _ (v .1)) (w .3 .came) in
+          on u _ (q .1) _ _ _ _ _ (c .before .before .match .y) same-memory (others-again t (c .before .before)) (c .before .before .before .before .before .before .before .if1 .taken) (goes-on u (c .before .before .before .before .before .before .before .if1 .taken) _ (c .before .before .before .before .before .before .step-at .ensures) (answerOnly (c .before .before .before .before .attempt .result)) (q .0) taken _ z (w .7 .ran) (w .7 .area) (⊎-elim (λ v. is-over _ _ _ _ _ _ (w .6 .ensures) _ _ (v .1 .given .1) (v .5) _ _ (v .3)) (λ v. told-as (v .5 .ensures .0) (v .12) (v .10)) (w .7 .came)) _ (w .11 .given .1)) (w .13) (w .16) nx,
+      trusted-to (trusted-on (c .before .before .before .before .before .before .before .before .before .loop2 .inv .1) (⊎-elim (λ v. trusted-as (c .before .before .before .before .before .before .before .before .before .loop2 .inv .1 .holds) refl (v .4)) (λ v. trusted-as (v .5 .ensures .1) (v .5 .kept .1 .1 .1 .1 .1 .1 .1 .0) (v .11)) (w .7 .came))) (w .14),
     ))
     (λ w. (
-      on (early .before .before .before .loop2 .inv .0) _ (c .before .before .before .attempt .ensures .1) _ _ _ _ _ (c .before .match .y) (same-others (early .before .before .before .loop2 .inv .0) (c .before .match .y) (w .4)) (early .before .if1 .taken) (is-rejected (early .before .before .before .loop2 .inv .0) (early .before .if1 .taken) _ (early .step-at .ensures) (answerOnly (c .before .before .before .attempt .result)) (c .before .before .before .attempt .ensures .0) _ (w .1 .given .1), refl) (w .2) (w .5) (c .after-try .ensures),
-      trusted-to (early .before .before .before .loop2 .inv .1) (w .3),
+      on u _ (q .1) _ _ _ _ _ (c .before .before .match .y) same-memory (others-again t (c .before .before)) (c .before .before .before .before .before .before .before .if1 .taken) (is-rejected u (c .before .before .before .before .before .before .before .if1 .taken) _ (c .before .before .before .before .before .before .step-at .ensures) (answerOnly (c .before .before .before .before .attempt .result)) (q .0) _ (w .1 .given .1), refl) (w .2) (w .5) nx,
+      trusted-to (c .before .before .before .before .before .before .before .before .before .loop2 .inv .1) (w .3),
     ))
-    (c .before .match .came)
+    (c .before .before .match .came)
 
 walk-cast-s-2 : (t : ℕ) → walk-lts.Need-cast-s-2 (walk-claims t) (walk-at t) walk.Post walk-Inv-loop2 walk-μ-loop2 walk-Inv-loop walk-μ-loop
 walk-cast-s-2 t c = search needs
 
 walk-mul-s-2 : (t : ℕ) → walk-lts.Need-mul-s-2 (walk-claims t) (walk-at t) walk.Post walk-Inv-loop2 walk-μ-loop2 walk-Inv-loop walk-μ-loop
-walk-mul-s-2 t c = let l = c .before .before .before .before .before .before .before .before .loop-test .taken in omega arith
+walk-mul-s-2 t c = let l = c .before .before .before .before .before .before .before .before .before .before .loop-test .taken in omega arith
 
 walk-element-set-from-s : (t : ℕ) → walk-lts.Need-element-set-from-s (walk-claims t) (walk-at t) walk.Post walk-Inv-loop2 walk-μ-loop2 walk-Inv-loop walk-μ-loop
-walk-element-set-from-s t c = c .before .before .before .before .before .before .before .before .loop-test .taken
+walk-element-set-from-s t c = c .before .before .before .before .before .before .before .before .before .before .loop-test .taken
 
 walk-add-next-open : (t : ℕ) → walk-lts.Need-add-next-open (walk-claims t) (walk-at t) walk.Post walk-Inv-loop2 walk-μ-loop2 walk-Inv-loop walk-μ-loop
-walk-add-next-open t c = let l = c .before .before .before .before .before .before .before .before .loop-test .taken in omega arith
+walk-add-next-open t c = let l = c .before .before .before .before .before .before .before .before .before .before .loop-test .taken in omega arith
 
 walk-next-open-requires : (t : ℕ) → walk-lts.Need-next-open-requires (walk-claims t) (walk-at t) walk.Post walk-Inv-loop2 walk-μ-loop2 walk-Inv-loop walk-μ-loop
-walk-next-open-requires t c κs = let l = c .before .before .before .before .before .before .before .before .loop-test .taken in omega arith
+walk-next-open-requires t c κs = let l = c .before .before .before .before .before .before .before .before .before .before .loop-test .taken in omega arith
 
 walk-loop-less : (t : ℕ) → walk-lts.Need-loop-less (walk-claims t) (walk-at t) walk.Post walk-Inv-loop2 walk-μ-loop2 walk-Inv-loop walk-μ-loop
-walk-loop-less t c = let l = c .before .before .before .before .before .before .before .before .before .loop-test .taken in let a = c .next-open .ensures .after in omega arith
+walk-loop-less t c = let l = c .before .before .before .before .before .before .before .before .before .before .before .loop-test .taken in let a = c .next-open .ensures .after in omega arith
 
 walk-loop-again : (t : ℕ) → walk-lts.Need-loop-again (walk-claims t) (walk-at t) walk.Post walk-Inv-loop2 walk-μ-loop2 walk-Inv-loop walk-μ-loop
-walk-loop-again t c =
-    let early = c .before .before .before .before .before .before .before .before .before .before in
-    (leaves (early .loop .inv .0) (c .before .before .before .loop2 .inv .0) (c .before .if1 .left) _ refl _ (c .next-open .ensures), trusted-on (early .loop .inv .1) (c .before .before .before .loop2 .inv .1))
+walk-loop-again t c = (leaves (c .before .before .before .before .before .before .before .before .before .before .before .before .loop .inv .0) (c .before .before .before .loop2 .inv .0) (c .before .if1 .left) _ refl _ (c .next-open .ensures), trusted-on (c .before .before .before .before .before .before .before .before .before .before .before .before .loop .inv .1) (c .before .before .before .loop2 .inv .1))
 
 walk-same-length-5 : (t : ℕ) → walk-lts.Need-same-length-5 (walk-claims t) (walk-at t) walk.Post walk-Inv-loop2 walk-μ-loop2 walk-Inv-loop walk-μ-loop
 walk-same-length-5 t c = ap length (c .before .before .loop .inv .0 .same)
@@ -249,7 +334,7 @@ walk-sub-keep : (t : ℕ) → walk-lts.Need-sub-keep (walk-claims t) (walk-at t)
 walk-sub-keep t c = rest-within _ _ _ (ends (c .before .before .before .loop .inv .0) (c .before .before .loop-test .left)) refl
 
 walk-keep-requires : (t : ℕ) → walk-lts.Need-keep-requires (walk-claims t) (walk-at t) walk.Post walk-Inv-loop2 walk-μ-loop2 walk-Inv-loop walk-μ-loop
-walk-keep-requires t c κs = let l = c .before .before .before .loop .inv .1 .as-long in let s = c .before .before .before .before .before .before .before .pre .1 .1 .has-slot (let h = c .before .if2 .left in omega arith) in omega arith
+walk-keep-requires t c κs = let l = c .before .before .before .loop .inv .1 .as-long in let s = c .before .before .before .before .before .before .pre .1 .1 .has-slot (let h = c .before .if4 .left in omega arith) in omega arith
 
 walk-same-length-7 : (t : ℕ) → walk-lts.Need-same-length-7 (walk-claims t) (walk-at t) walk.Post walk-Inv-loop2 walk-μ-loop2 walk-Inv-loop walk-μ-loop
 walk-same-length-7 t c = ap length (c .before .before .before .before .before .before .loop .inv .0 .same)
@@ -260,9 +345,9 @@ walk-same-length-8 t c = c .before .before .keep .kept .0 ∙ c .before .before 
 walk-returns-4 : (t : ℕ) → walk-lts.Need-returns-4 (walk-claims t) (walk-at t) walk.Post walk-Inv-loop2 walk-μ-loop2 walk-Inv-loop walk-μ-loop
 walk-returns-4 t c =
     let l = c .before .before .before .before .before .before .loop .inv .1 .as-long in
-    let s = c .before .before .before .before .before .before .before .before .before .before .pre .1 .1 .has-slot (let h = c .before .before .before .before .if2 .left in omega arith) in
+    let s = c .before .before .before .before .before .before .before .before .before .pre .1 .1 .has-slot (let h = c .before .before .before .before .if4 .left in omega arith) in
     let u = ends (c .before .before .before .before .before .before .loop .inv .0) (c .before .before .before .before .before .loop-test .left) in
-    (u, still-true _ _ _ u refl (c .before .before .before .before .before .before .before .before .before .before .pre .1 .0 .well) _ (c .before .before .before .before .before .before .loop .inv .1 .holds) (omega (arith, c .before .before .before .before .before .before .before .before .before .before .fits .left)) _ (omega arith) (whole-written (c .before .before .before .before .before .before .loop .inv .0) _ _ _ (c .before .before .keep .ensures)))
+    (u, still-true _ _ _ u refl (c .before .before .before .before .before .before .before .before .before .pre .1 .0 .well) _ (c .before .before .before .before .before .before .loop .inv .1 .holds) (omega (arith, c .before .before .before .before .before .before .before .before .before .fits .left)) _ (omega arith) (whole-written (c .before .before .before .before .before .before .loop .inv .0) _ _ _ (c .before .before .keep .ensures)))
 
 pub +walk-spec : {M : Type 1} → statement M
 +walk-spec =
@@ -293,6 +378,7 @@ pub +walk-spec : {M : Type 1} → statement M
     (walk-enum-known-f t)
     (walk-add-walk t)
     (walk-walk-requires t)
+    (walk-memory-before-requires t)
     (walk-enum-known-ran t)
     (walk-enum-known-ran-2 t)
     (walk-mul-put-step t)
