@@ -183,13 +183,8 @@ fn search_at(c: Code, i: u8, m: Memory, s: Thread, x: Instr, q: Sought) -> Reach
     while t <= 16 {
         if !hopeless(c, m, s, x, t, r) {
             r = try_at(c, i, m, s, x, t, r, q);
-            let met = r.met;
-            if met.ended(q.from) {
-                let rests = r.cares;
-                return Reached {
-                    met: met,
-                    cares: rests,
-                };
+            if r.met.ended(q.from) {
+                return r.so_far();
             }
         }
         t = following(x, m, s, t);

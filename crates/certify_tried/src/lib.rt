@@ -36,6 +36,20 @@ pub struct Tried {
     pub apart: bool,
 }
 
+impl Tried {
+    // What the tries so far have met, and what that rests on.
+    pub fn so_far(self) -> Reached
+        ensures { λ r. ⌜ r ≡ record { met = self .met; cares = self .cares } ⌝ }
+    {
+        let met = self.met;
+        let cares = self.cares;
+        Reached {
+            met: met,
+            cares: cares,
+        }
+    }
+}
+
 // More promises are outstanding than stores are left at position n and after it.
 fn crowded(c: Code, n: u8, s: Thread) -> bool
     requires { ⌜ c .count ≤ 16 ⌝ }

@@ -74,6 +74,7 @@ use Rattle.certify_window.proofs.idle.idle.Reads as idle-reads
 use Rattle.certify_window.proofs.idle.resumed.Reads as resumed-reads
 use Rattle.certify.proofs.own_message.Reads as own-message-reads
 use Rattle.certify_tried.proofs.appends.Reads as appends-reads
+use Rattle.certify_tried.proofs.Tried.so_far.Reads as so-far-reads
 use Rattle.certify_straight.proofs.at_position.Reads as at-position-reads
 use Rattle.certify_sought.proofs.goal.emptied.Reads as emptied-reads
 use Rattle.certify_sought.proofs.goal.fill.Reads as fill-reads
@@ -194,7 +195,7 @@ abbrev own-reached-claims : ℕ → own-reached-lts.Claims
 own-reached-claims t = (own-store-reads.Asked, own-store-reads.Learnt, own-asks-reads.Asked, own-asks-reads.Learnt, own-message-reads.Asked, own-message-reads.Learnt, append-reads.Asked, append-reads.Learnt, search-runs-below t, search-runs.Post, loads-ahead-reads.Asked, loads-ahead-reads.Learnt, and-reads.Asked, and-reads.Learnt)
 
 abbrev search-at-claims : ℕ → search-at-lts.Claims
-search-at-claims t = (worth-a-look-reads.Asked, worth-a-look-reads.Learnt, foreseen-reads.Asked, foreseen-reads.Learnt, worth-asking-reads.Asked, worth-asking-reads.Learnt, unread-reads.Asked, unread-reads.Learnt, search-runs-below t, search-runs.Post, told-reads.Asked, told-reads.Learnt, earliest-reads.Asked, earliest-reads.Learnt, filled-below t, filled.Post, untried-reads.Asked, untried-reads.Learnt, hopeless-reads.Asked, hopeless-reads.Learnt, try-at-below t, try-at.Post, ended-reads.Asked, ended-reads.Learnt, following-reads.Asked, following-reads.Learnt, appends-reads.Asked, appends-reads.Learnt, after-reads.Asked, after-reads.Learnt, own-reached-below t, own-reached.Post, asks-reads.Asked, asks-reads.Learnt, and-reads.Asked, and-reads.Learnt)
+search-at-claims t = (worth-a-look-reads.Asked, worth-a-look-reads.Learnt, foreseen-reads.Asked, foreseen-reads.Learnt, worth-asking-reads.Asked, worth-asking-reads.Learnt, unread-reads.Asked, unread-reads.Learnt, search-runs-below t, search-runs.Post, told-reads.Asked, told-reads.Learnt, earliest-reads.Asked, earliest-reads.Learnt, filled-below t, filled.Post, untried-reads.Asked, untried-reads.Learnt, hopeless-reads.Asked, hopeless-reads.Learnt, try-at-below t, try-at.Post, ended-reads.Asked, ended-reads.Learnt, so-far-reads.Asked, so-far-reads.Learnt, following-reads.Asked, following-reads.Learnt, appends-reads.Asked, appends-reads.Learnt, after-reads.Asked, after-reads.Learnt, own-reached-below t, own-reached.Post, asks-reads.Asked, asks-reads.Learnt, and-reads.Asked, and-reads.Learnt)
 
 abbrev search-runs-claims : ℕ → search-runs-lts.Claims
 search-runs-claims t = (kept-reads.Asked, kept-reads.Learnt, emptied-reads.Asked, emptied-reads.Learnt, halts-reads.Asked, halts-reads.Learnt, instr-at-reads.Asked, instr-at-reads.Learnt, search-at-below t, search-at.Post, both-ways-below t, both-ways.Post, walk-on-below t, walk-on.Post)
@@ -508,8 +509,11 @@ search-at-try-at-requires t c κs = (omega (arith, c .before .before .before .be
 search-at-ended-requires : (t : ℕ) → search-at-lts.Need-ended-requires (search-at-claims t) (search-at-at t) search-at.Post search-at-Inv-loop search-at-μ-loop
 search-at-ended-requires t c κs = search needs
 
+search-at-so-far-requires : (t : ℕ) → search-at-lts.Need-so-far-requires (search-at-claims t) (search-at-at t) search-at.Post search-at-Inv-loop search-at-μ-loop
+search-at-so-far-requires t c κs = search needs
+
 search-at-returns-3 : (t : ℕ) → search-at-lts.Need-returns-3 (search-at-claims t) (search-at-at t) search-at.Post search-at-Inv-loop search-at-μ-loop
-search-at-returns-3 t c = reach-ended _ _ _ _ (c .before .before .before .before .before .before .before .before .before .before .before .before .before .before .args .q) _ (better-on (fills-meets _ _ _ _ (c .before .before .before .before .before .before .before .before .before .before .before .before .before .before .args .q) _ (c .before .before .before .before .before .before .before .before .before .before .before .before .before .before .pre .1 .0 .is-next) _ (c .before .before .before .before .before .before .before .before .before .before .filled .ensures)) (better-on (rw (c .before .before .before .before .before .before .before .before .before .untried .ensures) at (c .before .before .before .before .before .before .before .before .loop .inv .1 .0)) (tried-meets _ _ _ _ (c .before .before .before .before .before .before .before .before .before .before .before .before .before .before .args .q) _ (c .before .before .before .before .before .before .before .before .before .before .before .before .before .before .pre .1 .0 .is-next) _ (c .before .before .before .before .before .before .before .before .before .before .filled .ensures) _ (c .before .before .before .before .try-at .ensures .better)))) (c .before .before .ended .ensures (c .before .if6 .taken))
+search-at-returns-3 t c = rw (c .so-far .ensures) (reach-ended _ _ _ _ (c .before .before .before .before .before .before .before .before .before .before .before .before .before .args .q) _ (better-on (fills-meets _ _ _ _ (c .before .before .before .before .before .before .before .before .before .before .before .before .before .args .q) _ (c .before .before .before .before .before .before .before .before .before .before .before .before .before .pre .1 .0 .is-next) _ (c .before .before .before .before .before .before .before .before .before .filled .ensures)) (better-on (rw (c .before .before .before .before .before .before .before .before .untried .ensures) at (c .before .before .before .before .before .before .before .loop .inv .1 .0)) (tried-meets _ _ _ _ (c .before .before .before .before .before .before .before .before .before .before .before .before .before .args .q) _ (c .before .before .before .before .before .before .before .before .before .before .before .before .before .pre .1 .0 .is-next) _ (c .before .before .before .before .before .before .before .before .before .filled .ensures) _ (c .before .before .before .try-at .ensures .better)))) (c .before .before .ended .ensures (c .before .if6 .taken)))
 
 search-at-following-requires : (t : ℕ) → search-at-lts.Need-following-requires (search-at-claims t) (search-at-at t) search-at.Post search-at-Inv-loop search-at-μ-loop
 search-at-following-requires t c κs = (c .before .before .before .before .before .before .before .before .before .pre .1 .0 .ready .room, c .before .before .loop-test .taken)
@@ -523,7 +527,7 @@ search-at-loop-again t c =
     let w = c .before .before .before .before .before .before .before .before .before .before .pre .1 .0 in
     let l = c .before .before .before .before .loop in
     let went : Went (a .c) (a .i) (a .m) (a .s) (a .x) (a .q) (l .r) (l .t) (c .before .if5 .r) = ⊎-elim
-    (λ z. subst (Went (a .c) (a .i) (a .m) (a .s) (a .x) (a .q) (l .r) (l .t)) (sym (z .5)) (z .1 .ensures))
+    (λ z. subst (Went (a .c) (a .i) (a .m) (a .s) (a .x) (a .q) (l .r) (l .t)) (sym (z .4)) (z .1 .ensures))
     (λ z. subst (Went (a .c) (a .i) (a .m) (a .s) (a .x) (a .q) (l .r) (l .t)) (sym (z .1)) (went-hopeless _ _ _ _ _ _ _ _ (l .inv .0 .knows) w (c .before .before .hopeless .ensures (not-false _ (z .0 .left)))))
     (c .before .if5 .came) in
     (missed-on _ _ _ _ _ _ _ _ _ _ _ (l .inv .0) went (c .following .ensures), (better-on (l .inv .1 .0) (tried-meets _ _ _ _ (a .q) _ (w .is-next) _ (c .before .before .before .before .before .before .filled .ensures) _ (went .better)), (covers-on (went .covers) (l .inv .1 .1 .0), c .following .ensures .within)))
@@ -758,6 +762,7 @@ pub +both-ways+filled+keeps+own-reached+search-at+search-runs+try-at+walk-on-spe
     (search-at-hopeless-requires t)
     (search-at-try-at-requires t)
     (search-at-ended-requires t)
+    (search-at-so-far-requires t)
     (search-at-returns-3 t)
     (search-at-following-requires t)
     (search-at-loop-less t)
