@@ -60,7 +60,7 @@ fn walk(
                     Arrival::Over(o) => o,
                     Arrival::Open(f, l) => walk(p, y, f, l, depth + 1, rest, area, table),
                 };
-                if step.kind != 0 {
+                if 0 < step.kind {
                     y.memory = memory_before(y.memory);
                 }
                 match ran {

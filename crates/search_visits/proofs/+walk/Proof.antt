@@ -176,7 +176,7 @@ walk-memory-before-requires t c κs =
     let q = attempted u _ (u .memory) _ (answerOnly (c .before .before .before .before .before .before .before .before .before .before .before .before .attempt .result)) _ (c .before .before .before .before .before .before .before .before .before .before .before .before .attempt .ensures) in
     let taken = c .before .before .before .before .before .before .before .before .before .enum-told .given .1 in
     let z = ⊎-elim (λ w. by-promise u (c .before .before .before .before .before .before .before .before .before .before .before .before .before .before .before .if1 .taken) _ (c .before .before .before .before .before .before .before .before .before .before .before .before .before .before .step-at .ensures) (answerOnly (c .before .before .before .before .before .before .before .before .before .before .before .before .attempt .result)) (q .0) _ (w .2 .ensures) _ (w .3)) (λ w. by-none u (c .before .before .before .before .before .before .before .before .before .before .before .before .before .before .before .if1 .taken) _ (c .before .before .before .before .before .before .before .before .before .before .before .before .before .before .step-at .ensures) (answerOnly (c .before .before .before .before .before .before .before .before .before .before .before .before .attempt .result)) (q .0) (w .0 .left) _ (w .1)) (c .before .before .before .before .before .before .before .if2 .came) in
-    has-newest u (c .before .before .before .before .before .before .before .before .before .before .before .before .before .before .before .if1 .taken) _ (c .before .before .before .before .before .before .before .before .before .before .before .before .before .before .step-at .ensures) (answerOnly (c .before .before .before .before .before .before .before .before .before .before .before .before .attempt .result)) (q .0) taken _ z (c .before .if3 .taken)
+    has-newest u (c .before .before .before .before .before .before .before .before .before .before .before .before .before .before .before .if1 .taken) _ (c .before .before .before .before .before .before .before .before .before .before .before .before .before .before .step-at .ensures) (answerOnly (c .before .before .before .before .before .before .before .before .before .before .before .before .attempt .result)) (q .0) taken _ z (λ e. let l = c .before .if3 .taken in omega arith)
 
 walk-enum-known-ran : (t : ℕ) → walk-lts.Need-enum-known-ran (walk-claims t) (walk-at t) walk.Post walk-Inv-loop2 walk-μ-loop2 walk-Inv-loop walk-μ-loop
 walk-enum-known-ran t c = search needs
@@ -249,8 +249,8 @@ memory-again t c =
     let taken = w .1 .given .1 in
     let z = ⊎-elim (λ v. by-promise u (c .before .before .before .before .before .if1 .taken) _ (c .before .before .before .before .step-at .ensures) (answerOnly (c .before .before .attempt .result)) (q .0) _ (v .2 .ensures) _ (v .3)) (λ v. by-none u (c .before .before .before .before .before .if1 .taken) _ (c .before .before .before .before .step-at .ensures) (answerOnly (c .before .before .attempt .result)) (q .0) (v .0 .left) _ (v .1)) (w .3 .came) in
     ap (λ (o : Machine). o .memory) (w .15)
-    ∙ ⊎-elim (λ v. ap (λ (o : Machine). o .memory) (v .3) ∙ v .2 .ensures ∙ off-again u (c .before .before .before .before .before .if1 .taken) _ (c .before .before .before .before .step-at .ensures) (answerOnly (c .before .before .attempt .result)) (q .0) taken _ z (v .0 .taken))
-    (λ v. ap (λ (o : Machine). o .memory) (v .1) ∙ still u (c .before .before .before .before .before .if1 .taken) _ (c .before .before .before .before .step-at .ensures) (answerOnly (c .before .before .attempt .result)) (q .0) taken _ z (v .0 .left))
+    ∙ ⊎-elim (λ v. ap (λ (o : Machine). o .memory) (v .3) ∙ v .2 .ensures ∙ off-again u (c .before .before .before .before .before .if1 .taken) _ (c .before .before .before .before .step-at .ensures) (answerOnly (c .before .before .attempt .result)) (q .0) taken _ z (λ e. let l = v .0 .taken in omega arith))
+    (λ v. ap (λ (o : Machine). o .memory) (v .1) ∙ still u (c .before .before .before .before .before .if1 .taken) _ (c .before .before .before .before .step-at .ensures) (answerOnly (c .before .before .attempt .result)) (q .0) taken _ z (let l = v .0 .left in omega arith))
     (w .9 .came)
     ))
     (λ w. ap (λ (o : Machine). o .memory) (w .4) ∙ u .memory)
