@@ -15,8 +15,8 @@
  * Numbers of more than one byte are little endian. Places, steps and indexes are 32 bits wide; from a file of 4 GiB or more they
  * are the low 32 bits of the number. Calls keep nothing between them, and may run at the same time on different areas.
  *
- * Stack, by the frames of the code for x86-64: 5 KiB for blyskota_read; 48 KiB for blyskota_certify, 50 KiB for blyskota_step and
- * 51 KiB for blyskota_replay; 202 KiB for both searches. No proof speaks of it: lend each call as much, and some for what calls it.
+ * Stack, by the frames of the code for x86-64: blyskota_read 6 KiB, blyskota_certify 30 KiB, blyskota_step 31 KiB, blyskota_replay 33 KiB,
+ * blyskota_search 152 KiB, blyskota_search_within 152 KiB. No proof speaks of it: lend each call as much, and some for what calls it.
  *
  * README.md says byte by byte what a program file and a trace file are.
  */

@@ -4,7 +4,7 @@ import re
 import textwrap
 import unittest
 
-from support import ROOT, CommandTest
+from support import OK, ROOT, CommandTest
 
 import listing
 import refusals
@@ -99,6 +99,15 @@ class Refusals(unittest.TestCase):
     def test_rust_wrapper(self):
         found = re.findall(r'^ +(\d+) => "(.*)",$', text("rust/blyskota/src/refusal.rs"), re.MULTILINE)
         self.assertEqual({int(number): meaning for number, meaning in found}, self.meanings)
+
+
+class Stack(CommandTest):
+    @unittest.skipUnless(os.uname().machine == "x86_64", "the frames are those of the code for x86-64")
+    def test_the_header_says_what_the_frames_come_to(self):
+        self.holds((OK, "", ""), ROOT / "tools" / "frames", "--check")
+
+    def test_no_archive(self):
+        self.holds((2, "", "frames: nowhere is not there: build it with rt staticlib capi\n"), ROOT / "tools" / "frames", "nowhere")
 
 
 class Paths(unittest.TestCase):
