@@ -116,6 +116,16 @@ walk-enum-told t c = search needs
 walk-memory-after-requires : (t : ℕ) → walk-lts.Need-memory-after-requires (walk-claims t) (walk-at t) walk.Post walk-Inv-loop2 walk-μ-loop2 walk-Inv-loop walk-μ-loop
 walk-memory-after-requires t c κs = search needs
 
+-- the message of a promise is in memory, and an execution touches none
+promise-made : (t : ℕ) (c : walk-lts.Joined2 (walk-claims t) (walk-at t) walk.Post walk-Inv-loop2 walk-μ-loop2 walk-Inv-loop walk-μ-loop) → Promised (c .before .before .before .before .before .before .before .before .before .before .loop2 .inv .0) (c .before .before .before .before .before .before .before .before .if1 .taken) _ (c .before .before .before .before .before .before .before .step-at .ensures) (answerOnly (c .before .before .before .before .before .attempt .result)) (attempted (c .before .before .before .before .before .before .before .before .before .before .loop2 .inv .0) _ (c .before .before .before .before .before .before .before .before .before .before .loop2 .inv .0 .memory) _ (answerOnly (c .before .before .before .before .before .attempt .result)) _ (c .before .before .before .before .before .attempt .ensures) .0) (c .if2 .y)
+promise-made t c =
+    let u = c .before .before .before .before .before .before .before .before .before .before .loop2 .inv .0 in
+    let q = attempted u _ (u .memory) _ (answerOnly (c .before .before .before .before .before .attempt .result)) _ (c .before .before .before .before .before .attempt .ensures) in
+    ⊎-elim
+    (λ w. by-promise u (c .before .before .before .before .before .before .before .before .if1 .taken) _ (c .before .before .before .before .before .before .before .step-at .ensures) (answerOnly (c .before .before .before .before .before .attempt .result)) (q .0) _ (w .2 .ensures) _ (w .3))
+    (λ w. by-none u (c .before .before .before .before .before .before .before .before .if1 .taken) _ (c .before .before .before .before .before .before .before .step-at .ensures) (answerOnly (c .before .before .before .before .before .attempt .result)) (q .0) (w .0 .left) _ (w .1))
+    (c .if2 .came)
+
 walk-cast-q : (t : ℕ) → walk-lts.Need-cast-q (walk-claims t) (walk-at t) walk.Post walk-Inv-loop2 walk-μ-loop2 walk-Inv-loop walk-μ-loop
 walk-cast-q t c = omega (arith, c .before .before .before .before .before .before .before .before .before .before .before .before .before .before .before .before .before .before .before .loop-test .taken)
 
@@ -129,9 +139,7 @@ walk-add-arrive : (t : ℕ) → walk-lts.Need-add-arrive (walk-claims t) (walk-a
 walk-add-arrive t c =
     let u = c .before .before .before .before .before .before .before .before .before .before .before .loop2 .inv .0 in
     let q = attempted u _ (u .memory) _ (answerOnly (c .before .before .before .before .before .before .attempt .result)) _ (c .before .before .before .before .before .before .attempt .ensures) in
-    let taken = c .before .before .before .enum-told .given .1 in
-    let z = ⊎-elim (λ w. by-promise u (c .before .before .before .before .before .before .before .before .before .if1 .taken) _ (c .before .before .before .before .before .before .before .before .step-at .ensures) (answerOnly (c .before .before .before .before .before .before .attempt .result)) (q .0) _ (w .2 .ensures) _ (w .3)) (λ w. by-none u (c .before .before .before .before .before .before .before .before .before .if1 .taken) _ (c .before .before .before .before .before .before .before .before .step-at .ensures) (answerOnly (c .before .before .before .before .before .before .attempt .result)) (q .0) (w .0 .left) _ (w .1)) (c .before .if2 .came) in
-    let r = ready-below u (c .before .before .before .before .before .before .before .before .before .if1 .taken) _ (c .before .before .before .before .before .before .before .before .step-at .ensures) (answerOnly (c .before .before .before .before .before .before .attempt .result)) (q .0) taken _ z .room in
+    let r = ready-below u (c .before .before .before .before .before .before .before .before .before .if1 .taken) _ (c .before .before .before .before .before .before .before .before .step-at .ensures) (answerOnly (c .before .before .before .before .before .before .attempt .result)) (q .0) (c .before .before .before .enum-told .given .1) _ (promise-made t (c .before)) .room in
     let e = ap length (u .same) in
     let f = ap length (c .before .before .before .before .before .before .before .before .before .before .before .before .before .before .before .before .before .before .before .before .loop .inv .0 .same) in
     omega (arith, c .before .before .before .before .before .before .before .before .before .before .before .before .before .before .before .before .before .before .before .before .before .before .before)
@@ -140,9 +148,7 @@ walk-arrive-requires : (t : ℕ) → walk-lts.Need-arrive-requires (walk-claims 
 walk-arrive-requires t c κs =
     let u = c .before .before .before .before .before .before .before .before .before .before .before .before .loop2 .inv .0 in
     let q = attempted u _ (u .memory) _ (answerOnly (c .before .before .before .before .before .before .before .attempt .result)) _ (c .before .before .before .before .before .before .before .attempt .ensures) in
-    let taken = c .before .before .before .before .enum-told .given .1 in
-    let z = ⊎-elim (λ w. by-promise u (c .before .before .before .before .before .before .before .before .before .before .if1 .taken) _ (c .before .before .before .before .before .before .before .before .before .step-at .ensures) (answerOnly (c .before .before .before .before .before .before .before .attempt .result)) (q .0) _ (w .2 .ensures) _ (w .3)) (λ w. by-none u (c .before .before .before .before .before .before .before .before .before .before .if1 .taken) _ (c .before .before .before .before .before .before .before .before .before .step-at .ensures) (answerOnly (c .before .before .before .before .before .before .before .attempt .result)) (q .0) (w .0 .left) _ (w .1)) (c .before .before .if2 .came) in
-    (ready-below u (c .before .before .before .before .before .before .before .before .before .before .if1 .taken) _ (c .before .before .before .before .before .before .before .before .before .step-at .ensures) (answerOnly (c .before .before .before .before .before .before .before .attempt .result)) (q .0) taken _ z .well, c .before .before .before .before .before .before .before .before .before .before .before .before .loop2 .inv .1 .holds)
+    (ready-below u (c .before .before .before .before .before .before .before .before .before .before .if1 .taken) _ (c .before .before .before .before .before .before .before .before .before .step-at .ensures) (answerOnly (c .before .before .before .before .before .before .before .attempt .result)) (q .0) (c .before .before .before .before .enum-told .given .1) _ (promise-made t (c .before .before)) .well, c .before .before .before .before .before .before .before .before .before .before .before .before .loop2 .inv .1 .holds)
 
 walk-enum-known-o : (t : ℕ) → walk-lts.Need-enum-known-o (walk-claims t) (walk-at t) walk.Post walk-Inv-loop2 walk-μ-loop2 walk-Inv-loop walk-μ-loop
 walk-enum-known-o t c = search needs
@@ -154,9 +160,7 @@ walk-add-walk : (t : ℕ) → walk-lts.Need-add-walk (walk-claims t) (walk-at t)
 walk-add-walk t c =
     let u = c .before .before .before .before .before .before .before .before .before .before .before .before .before .before .before .before .loop2 .inv .0 in
     let q = attempted u _ (u .memory) _ (answerOnly (c .before .before .before .before .before .before .before .before .before .before .before .attempt .result)) _ (c .before .before .before .before .before .before .before .before .before .before .before .attempt .ensures) in
-    let taken = c .before .before .before .before .before .before .before .before .enum-told .given .1 in
-    let z = ⊎-elim (λ w. by-promise u (c .before .before .before .before .before .before .before .before .before .before .before .before .before .before .if1 .taken) _ (c .before .before .before .before .before .before .before .before .before .before .before .before .before .step-at .ensures) (answerOnly (c .before .before .before .before .before .before .before .before .before .before .before .attempt .result)) (q .0) _ (w .2 .ensures) _ (w .3)) (λ w. by-none u (c .before .before .before .before .before .before .before .before .before .before .before .before .before .before .if1 .taken) _ (c .before .before .before .before .before .before .before .before .before .before .before .before .before .step-at .ensures) (answerOnly (c .before .before .before .before .before .before .before .before .before .before .before .attempt .result)) (q .0) (w .0 .left) _ (w .1)) (c .before .before .before .before .before .before .if2 .came) in
-    let r = ready-below u (c .before .before .before .before .before .before .before .before .before .before .before .before .before .before .if1 .taken) _ (c .before .before .before .before .before .before .before .before .before .before .before .before .before .step-at .ensures) (answerOnly (c .before .before .before .before .before .before .before .before .before .before .before .attempt .result)) (q .0) taken _ z .room in
+    let r = ready-below u (c .before .before .before .before .before .before .before .before .before .before .before .before .before .before .if1 .taken) _ (c .before .before .before .before .before .before .before .before .before .before .before .before .before .step-at .ensures) (answerOnly (c .before .before .before .before .before .before .before .before .before .before .before .attempt .result)) (q .0) (c .before .before .before .before .before .before .before .before .enum-told .given .1) _ (promise-made t (c .before .before .before .before .before .before)) .room in
     let e = ap length (u .same) in
     let f = ap length (c .before .before .before .before .before .before .before .before .before .before .before .before .before .before .before .before .before .before .before .before .before .before .before .before .before .loop .inv .0 .same) in
     omega (arith, c .before .before .before .before .before .before .before .before .before .before .before .before .before .before .before .before .before .before .before .before .before .before .before .before .before .before .before .before)
@@ -165,18 +169,14 @@ walk-walk-requires : (t : ℕ) → walk-lts.Need-walk-requires (walk-claims t) (
 walk-walk-requires t c κs =
     let u = c .before .before .before .before .before .before .before .before .before .before .before .before .before .before .before .before .before .before .loop2 .inv .0 in
     let q = attempted u _ (u .memory) _ (answerOnly (c .before .before .before .before .before .before .before .before .before .before .before .before .before .attempt .result)) _ (c .before .before .before .before .before .before .before .before .before .before .before .before .before .attempt .ensures) in
-    let taken = c .before .before .before .before .before .before .before .before .before .before .enum-told .given .1 in
-    let z = ⊎-elim (λ w. by-promise u (c .before .before .before .before .before .before .before .before .before .before .before .before .before .before .before .before .if1 .taken) _ (c .before .before .before .before .before .before .before .before .before .before .before .before .before .before .before .step-at .ensures) (answerOnly (c .before .before .before .before .before .before .before .before .before .before .before .before .before .attempt .result)) (q .0) _ (w .2 .ensures) _ (w .3)) (λ w. by-none u (c .before .before .before .before .before .before .before .before .before .before .before .before .before .before .before .before .if1 .taken) _ (c .before .before .before .before .before .before .before .before .before .before .before .before .before .before .before .step-at .ensures) (answerOnly (c .before .before .before .before .before .before .before .before .before .before .before .before .before .attempt .result)) (q .0) (w .0 .left) _ (w .1)) (c .before .before .before .before .before .before .before .before .if2 .came) in
-    let l = less-than-whole (c .before .before .before .before .before .before .before .before .before .before .before .before .before .before .before .before .before .before .before .before .before .before .before .before .before .before .before .loop .inv .0) _ (lower u (c .before .before .before .before .before .before .before .before .before .before .before .before .before .before .before .before .if1 .taken) _ (c .before .before .before .before .before .before .before .before .before .before .before .before .before .before .before .step-at .ensures) (answerOnly (c .before .before .before .before .before .before .before .before .before .before .before .before .before .attempt .result)) (q .0) taken _ z) in
-    (omega (arith, c .before .before .before .before .before .before .before .before .before .before .before .before .before .before .before .before .before .before .before .before .before .before .before .before .before .before .before .before .before .before .pre .0), (ready-below u (c .before .before .before .before .before .before .before .before .before .before .before .before .before .before .before .before .if1 .taken) _ (c .before .before .before .before .before .before .before .before .before .before .before .before .before .before .before .step-at .ensures) (answerOnly (c .before .before .before .before .before .before .before .before .before .before .before .before .before .attempt .result)) (q .0) taken _ z, is-open _ _ _ _ _ _ (c .before .before .before .before .before .arrive .ensures) _ _ (c .before .before .before .f .given .1), c .before .before .before .before .before .before .before .before .before .before .before .before .before .before .before .before .before .before .loop2 .inv .1 .holds))
+    let l = less-than-whole (c .before .before .before .before .before .before .before .before .before .before .before .before .before .before .before .before .before .before .before .before .before .before .before .before .before .before .before .loop .inv .0) _ (lower u (c .before .before .before .before .before .before .before .before .before .before .before .before .before .before .before .before .if1 .taken) _ (c .before .before .before .before .before .before .before .before .before .before .before .before .before .before .before .step-at .ensures) (answerOnly (c .before .before .before .before .before .before .before .before .before .before .before .before .before .attempt .result)) (q .0) (c .before .before .before .before .before .before .before .before .before .before .enum-told .given .1) _ (promise-made t (c .before .before .before .before .before .before .before .before))) in
+    (omega (arith, c .before .before .before .before .before .before .before .before .before .before .before .before .before .before .before .before .before .before .before .before .before .before .before .before .before .before .before .before .before .before .pre .0), (ready-below u (c .before .before .before .before .before .before .before .before .before .before .before .before .before .before .before .before .if1 .taken) _ (c .before .before .before .before .before .before .before .before .before .before .before .before .before .before .before .step-at .ensures) (answerOnly (c .before .before .before .before .before .before .before .before .before .before .before .before .before .attempt .result)) (q .0) (c .before .before .before .before .before .before .before .before .before .before .enum-told .given .1) _ (promise-made t (c .before .before .before .before .before .before .before .before)), is-open _ _ _ _ _ _ (c .before .before .before .before .before .arrive .ensures) _ _ (c .before .before .before .f .given .1), c .before .before .before .before .before .before .before .before .before .before .before .before .before .before .before .before .before .before .loop2 .inv .1 .holds))
 
 walk-memory-before-requires : (t : ℕ) → walk-lts.Need-memory-before-requires (walk-claims t) (walk-at t) walk.Post walk-Inv-loop2 walk-μ-loop2 walk-Inv-loop walk-μ-loop
 walk-memory-before-requires t c κs =
     let u = c .before .before .before .before .before .before .before .before .before .before .before .before .before .before .before .before .before .loop2 .inv .0 in
     let q = attempted u _ (u .memory) _ (answerOnly (c .before .before .before .before .before .before .before .before .before .before .before .before .attempt .result)) _ (c .before .before .before .before .before .before .before .before .before .before .before .before .attempt .ensures) in
-    let taken = c .before .before .before .before .before .before .before .before .before .enum-told .given .1 in
-    let z = ⊎-elim (λ w. by-promise u (c .before .before .before .before .before .before .before .before .before .before .before .before .before .before .before .if1 .taken) _ (c .before .before .before .before .before .before .before .before .before .before .before .before .before .before .step-at .ensures) (answerOnly (c .before .before .before .before .before .before .before .before .before .before .before .before .attempt .result)) (q .0) _ (w .2 .ensures) _ (w .3)) (λ w. by-none u (c .before .before .before .before .before .before .before .before .before .before .before .before .before .before .before .if1 .taken) _ (c .before .before .before .before .before .before .before .before .before .before .before .before .before .before .step-at .ensures) (answerOnly (c .before .before .before .before .before .before .before .before .before .before .before .before .attempt .result)) (q .0) (w .0 .left) _ (w .1)) (c .before .before .before .before .before .before .before .if2 .came) in
-    has-newest u (c .before .before .before .before .before .before .before .before .before .before .before .before .before .before .before .if1 .taken) _ (c .before .before .before .before .before .before .before .before .before .before .before .before .before .before .step-at .ensures) (answerOnly (c .before .before .before .before .before .before .before .before .before .before .before .before .attempt .result)) (q .0) taken _ z (λ e. let l = c .before .if3 .taken in omega arith)
+    has-newest u (c .before .before .before .before .before .before .before .before .before .before .before .before .before .before .before .if1 .taken) _ (c .before .before .before .before .before .before .before .before .before .before .before .before .before .before .step-at .ensures) (answerOnly (c .before .before .before .before .before .before .before .before .before .before .before .before .attempt .result)) (q .0) (c .before .before .before .before .before .before .before .before .before .enum-told .given .1) _ (promise-made t (c .before .before .before .before .before .before .before)) (λ e. let l = c .before .if3 .taken in omega arith)
 
 walk-enum-known-ran : (t : ℕ) → walk-lts.Need-enum-known-ran (walk-claims t) (walk-at t) walk.Post walk-Inv-loop2 walk-μ-loop2 walk-Inv-loop walk-μ-loop
 walk-enum-known-ran t c = search needs
@@ -188,9 +188,7 @@ walk-mul-put-step : (t : ℕ) → walk-lts.Need-mul-put-step (walk-claims t) (wa
 walk-mul-put-step t c =
     let u = c .before .before .before .before .before .before .before .before .before .before .before .before .before .before .before .before .before .before .before .before .loop2 .inv .0 in
     let q = attempted u _ (u .memory) _ (answerOnly (c .before .before .before .before .before .before .before .before .before .before .before .before .before .before .before .attempt .result)) _ (c .before .before .before .before .before .before .before .before .before .before .before .before .before .before .before .attempt .ensures) in
-    let taken = c .before .before .before .before .before .before .before .before .before .before .before .before .enum-told .given .1 in
-    let z = ⊎-elim (λ w. by-promise u (c .before .before .before .before .before .before .before .before .before .before .before .before .before .before .before .before .before .before .if1 .taken) _ (c .before .before .before .before .before .before .before .before .before .before .before .before .before .before .before .before .before .step-at .ensures) (answerOnly (c .before .before .before .before .before .before .before .before .before .before .before .before .before .before .before .attempt .result)) (q .0) _ (w .2 .ensures) _ (w .3)) (λ w. by-none u (c .before .before .before .before .before .before .before .before .before .before .before .before .before .before .before .before .before .before .if1 .taken) _ (c .before .before .before .before .before .before .before .before .before .before .before .before .before .before .before .before .before .step-at .ensures) (answerOnly (c .before .before .before .before .before .before .before .before .before .before .before .before .before .before .before .attempt .result)) (q .0) (w .0 .left) _ (w .1)) (c .before .before .before .before .before .before .before .before .before .before .if2 .came) in
-    let r = ready-below u (c .before .before .before .before .before .before .before .before .before .before .before .before .before .before .before .before .before .before .if1 .taken) _ (c .before .before .before .before .before .before .before .before .before .before .before .before .before .before .before .before .before .step-at .ensures) (answerOnly (c .before .before .before .before .before .before .before .before .before .before .before .before .before .before .before .attempt .result)) (q .0) taken _ z .room in
+    let r = ready-below u (c .before .before .before .before .before .before .before .before .before .before .before .before .before .before .before .before .before .before .if1 .taken) _ (c .before .before .before .before .before .before .before .before .before .before .before .before .before .before .before .before .before .step-at .ensures) (answerOnly (c .before .before .before .before .before .before .before .before .before .before .before .before .before .before .before .attempt .result)) (q .0) (c .before .before .before .before .before .before .before .before .before .before .before .before .enum-told .given .1) _ (promise-made t (c .before .before .before .before .before .before .before .before .before .before)) .room in
     let e = ap length (u .same) in
     let f = ap length (c .before .before .before .before .before .before .before .before .before .before .before .before .before .before .before .before .before .before .before .before .before .before .before .before .before .before .before .before .before .loop .inv .0 .same) in
     omega (arith, c .before .before .before .before .before .before .before .before .before .before .before .before .before .before .before .before .before .before .before .before .before .before .before .before .before .before .before .before .before .before .before .before)
@@ -199,9 +197,7 @@ walk-put-step-requires : (t : ℕ) → walk-lts.Need-put-step-requires (walk-cla
 walk-put-step-requires t c κs =
     let u = c .before .before .before .before .before .before .before .before .before .before .before .before .before .before .before .before .before .before .before .before .loop2 .inv .0 in
     let q = attempted u _ (u .memory) _ (answerOnly (c .before .before .before .before .before .before .before .before .before .before .before .before .before .before .before .attempt .result)) _ (c .before .before .before .before .before .before .before .before .before .before .before .before .before .before .before .attempt .ensures) in
-    let taken = c .before .before .before .before .before .before .before .before .before .before .before .before .enum-told .given .1 in
-    let z = ⊎-elim (λ w. by-promise u (c .before .before .before .before .before .before .before .before .before .before .before .before .before .before .before .before .before .before .if1 .taken) _ (c .before .before .before .before .before .before .before .before .before .before .before .before .before .before .before .before .before .step-at .ensures) (answerOnly (c .before .before .before .before .before .before .before .before .before .before .before .before .before .before .before .attempt .result)) (q .0) _ (w .2 .ensures) _ (w .3)) (λ w. by-none u (c .before .before .before .before .before .before .before .before .before .before .before .before .before .before .before .before .before .before .if1 .taken) _ (c .before .before .before .before .before .before .before .before .before .before .before .before .before .before .before .before .before .step-at .ensures) (answerOnly (c .before .before .before .before .before .before .before .before .before .before .before .before .before .before .before .attempt .result)) (q .0) (w .0 .left) _ (w .1)) (c .before .before .before .before .before .before .before .before .before .before .if2 .came) in
-    let r = ready-below u (c .before .before .before .before .before .before .before .before .before .before .before .before .before .before .before .before .before .before .if1 .taken) _ (c .before .before .before .before .before .before .before .before .before .before .before .before .before .before .before .before .before .step-at .ensures) (answerOnly (c .before .before .before .before .before .before .before .before .before .before .before .before .before .before .before .attempt .result)) (q .0) taken _ z .room in
+    let r = ready-below u (c .before .before .before .before .before .before .before .before .before .before .before .before .before .before .before .before .before .before .if1 .taken) _ (c .before .before .before .before .before .before .before .before .before .before .before .before .before .before .before .before .before .step-at .ensures) (answerOnly (c .before .before .before .before .before .before .before .before .before .before .before .before .before .before .before .attempt .result)) (q .0) (c .before .before .before .before .before .before .before .before .before .before .before .before .enum-told .given .1) _ (promise-made t (c .before .before .before .before .before .before .before .before .before .before)) .room in
     let l : length (c .before .before .before .before .before .before .match2 .area) ≡ length (c .before .before .before .before .before .before .before .before .before .before .before .before .before .before .before .before .before .before .before .before .loop2 .area) = (⊎-elim (λ v. ap length (v .3)) (λ v. ap length (v .10) ∙ v .5 .kept .1 .1 .1 .1 .1 .1 .0) (c .before .before .before .before .before .before .match2 .came)) in
     omega arith
 
@@ -215,9 +211,7 @@ walk-returns : (t : ℕ) → walk-lts.Need-returns (walk-claims t) (walk-at t) w
 walk-returns t c =
     let u = c .before .before .before .before .before .before .before .before .before .before .before .before .before .before .before .before .before .before .before .before .before .before .before .loop2 .inv .0 in
     let q = attempted u _ (u .memory) _ (answerOnly (c .before .before .before .before .before .before .before .before .before .before .before .before .before .before .before .before .before .before .attempt .result)) _ (c .before .before .before .before .before .before .before .before .before .before .before .before .before .before .before .before .before .before .attempt .ensures) in
-    let taken = c .before .before .before .before .before .before .before .before .before .before .before .before .before .before .before .enum-told .given .1 in
-    let z = ⊎-elim (λ w. by-promise u (c .before .before .before .before .before .before .before .before .before .before .before .before .before .before .before .before .before .before .before .before .before .if1 .taken) _ (c .before .before .before .before .before .before .before .before .before .before .before .before .before .before .before .before .before .before .before .before .step-at .ensures) (answerOnly (c .before .before .before .before .before .before .before .before .before .before .before .before .before .before .before .before .before .before .attempt .result)) (q .0) _ (w .2 .ensures) _ (w .3)) (λ w. by-none u (c .before .before .before .before .before .before .before .before .before .before .before .before .before .before .before .before .before .before .before .before .before .if1 .taken) _ (c .before .before .before .before .before .before .before .before .before .before .before .before .before .before .before .before .before .before .before .before .step-at .ensures) (answerOnly (c .before .before .before .before .before .before .before .before .before .before .before .before .before .before .before .before .before .before .attempt .result)) (q .0) (w .0 .left) _ (w .1)) (c .before .before .before .before .before .before .before .before .before .before .before .before .before .if2 .came) in
-    (answers (c .before .before .before .before .before .before .before .before .before .before .before .before .before .before .before .before .before .before .before .before .before .before .before .before .before .before .before .before .before .before .before .before .loop .inv .0) (finds u (c .before .before .before .before .before .before .before .before .before .before .before .before .before .before .before .before .before .before .before .before .before .if1 .taken) _ (c .before .before .before .before .before .before .before .before .before .before .before .before .before .before .before .before .before .before .before .before .step-at .ensures) (answerOnly (c .before .before .before .before .before .before .before .before .before .before .before .before .before .before .before .before .before .before .attempt .result)) (q .0) taken _ z (c .before .before .before .before .before .before .before .before .before .match2 .ran) (c .before .before .before .before .before .before .before .before .before .match2 .area) (⊎-elim (λ v. is-over _ _ _ _ _ _ (c .before .before .before .before .before .before .before .before .before .before .arrive .ensures) _ _ (v .1 .given .1) (v .5) _ _ (v .3)) (λ v. told-as (v .5 .ensures .0) (v .12) (v .10)) (c .before .before .before .before .before .before .before .before .before .match2 .came)) _ _ (c .before .before .before .before .before .ran2 .given .1) _ (c .before .before .put-step .ensures)), trusted-on (c .before .before .before .before .before .before .before .before .before .before .before .before .before .before .before .before .before .before .before .before .before .before .before .loop2 .inv .1) (⊎-elim (λ v. trusted-as (c .before .before .before .before .before .before .before .before .before .before .before .before .before .before .before .before .before .before .before .before .before .before .before .loop2 .inv .1 .holds) refl (v .4)) (λ v. trusted-as (v .5 .ensures .1) (v .5 .kept .1 .1 .1 .1 .1 .1 .1 .0) (v .11)) (c .before .before .before .before .before .before .before .before .before .match2 .came)) .holds)
+    (answers (c .before .before .before .before .before .before .before .before .before .before .before .before .before .before .before .before .before .before .before .before .before .before .before .before .before .before .before .before .before .before .before .before .loop .inv .0) (finds u (c .before .before .before .before .before .before .before .before .before .before .before .before .before .before .before .before .before .before .before .before .before .if1 .taken) _ (c .before .before .before .before .before .before .before .before .before .before .before .before .before .before .before .before .before .before .before .before .step-at .ensures) (answerOnly (c .before .before .before .before .before .before .before .before .before .before .before .before .before .before .before .before .before .before .attempt .result)) (q .0) (c .before .before .before .before .before .before .before .before .before .before .before .before .before .before .before .enum-told .given .1) _ (promise-made t (c .before .before .before .before .before .before .before .before .before .before .before .before .before)) (c .before .before .before .before .before .before .before .before .before .match2 .ran) (c .before .before .before .before .before .before .before .before .before .match2 .area) (⊎-elim (λ v. is-over _ _ _ _ _ _ (c .before .before .before .before .before .before .before .before .before .before .arrive .ensures) _ _ (v .1 .given .1) (v .5) _ _ (v .3)) (λ v. told-as (v .5 .ensures .0) (v .12) (v .10)) (c .before .before .before .before .before .before .before .before .before .match2 .came)) _ _ (c .before .before .before .before .before .ran2 .given .1) _ (c .before .before .put-step .ensures)), trusted-on (c .before .before .before .before .before .before .before .before .before .before .before .before .before .before .before .before .before .before .before .before .before .before .before .loop2 .inv .1) (⊎-elim (λ v. trusted-as (c .before .before .before .before .before .before .before .before .before .before .before .before .before .before .before .before .before .before .before .before .before .before .before .loop2 .inv .1 .holds) refl (v .4)) (λ v. trusted-as (v .5 .ensures .1) (v .5 .kept .1 .1 .1 .1 .1 .1 .1 .0) (v .11)) (c .before .before .before .before .before .before .before .before .before .match2 .came)) .holds)
 
 walk-enum-told-2 : (t : ℕ) → walk-lts.Need-enum-told-2 (walk-claims t) (walk-at t) walk.Post walk-Inv-loop2 walk-μ-loop2 walk-Inv-loop walk-μ-loop
 walk-enum-told-2 t c = search needs
@@ -232,9 +226,7 @@ walk-returns-2 : (t : ℕ) → walk-lts.Need-returns-2 (walk-claims t) (walk-at 
 walk-returns-2 t c =
     let u = c .before .before .before .before .before .before .before .before .before .before .before .before .before .before .before .before .before .before .loop2 .inv .0 in
     let q = attempted u _ (u .memory) _ (answerOnly (c .before .before .before .before .before .before .before .before .before .before .before .before .before .attempt .result)) _ (c .before .before .before .before .before .before .before .before .before .before .before .before .before .attempt .ensures) in
-    let taken = c .before .before .before .before .before .before .before .before .before .before .enum-told .given .1 in
-    let z = ⊎-elim (λ w. by-promise u (c .before .before .before .before .before .before .before .before .before .before .before .before .before .before .before .before .if1 .taken) _ (c .before .before .before .before .before .before .before .before .before .before .before .before .before .before .before .step-at .ensures) (answerOnly (c .before .before .before .before .before .before .before .before .before .before .before .before .before .attempt .result)) (q .0) _ (w .2 .ensures) _ (w .3)) (λ w. by-none u (c .before .before .before .before .before .before .before .before .before .before .before .before .before .before .before .before .if1 .taken) _ (c .before .before .before .before .before .before .before .before .before .before .before .before .before .before .before .step-at .ensures) (answerOnly (c .before .before .before .before .before .before .before .before .before .before .before .before .before .attempt .result)) (q .0) (w .0 .left) _ (w .1)) (c .before .before .before .before .before .before .before .before .if2 .came) in
-    (answers (c .before .before .before .before .before .before .before .before .before .before .before .before .before .before .before .before .before .before .before .before .before .before .before .before .before .before .before .loop .inv .0) (runs-out u (c .before .before .before .before .before .before .before .before .before .before .before .before .before .before .before .before .if1 .taken) _ (c .before .before .before .before .before .before .before .before .before .before .before .before .before .before .before .step-at .ensures) (answerOnly (c .before .before .before .before .before .before .before .before .before .before .before .before .before .attempt .result)) (q .0) taken _ z (c .before .before .before .before .match2 .ran) (c .before .before .before .before .match2 .area) (⊎-elim (λ v. is-over _ _ _ _ _ _ (c .before .before .before .before .before .arrive .ensures) _ _ (v .1 .given .1) (v .5) _ _ (v .3)) (λ v. told-as (v .5 .ensures .0) (v .12) (v .10)) (c .before .before .before .before .match2 .came)) (c .enum-told2 .given .1)), trusted-on (c .before .before .before .before .before .before .before .before .before .before .before .before .before .before .before .before .before .before .loop2 .inv .1) (⊎-elim (λ v. trusted-as (c .before .before .before .before .before .before .before .before .before .before .before .before .before .before .before .before .before .before .loop2 .inv .1 .holds) refl (v .4)) (λ v. trusted-as (v .5 .ensures .1) (v .5 .kept .1 .1 .1 .1 .1 .1 .1 .0) (v .11)) (c .before .before .before .before .match2 .came)) .holds)
+    (answers (c .before .before .before .before .before .before .before .before .before .before .before .before .before .before .before .before .before .before .before .before .before .before .before .before .before .before .before .loop .inv .0) (runs-out u (c .before .before .before .before .before .before .before .before .before .before .before .before .before .before .before .before .if1 .taken) _ (c .before .before .before .before .before .before .before .before .before .before .before .before .before .before .before .step-at .ensures) (answerOnly (c .before .before .before .before .before .before .before .before .before .before .before .before .before .attempt .result)) (q .0) (c .before .before .before .before .before .before .before .before .before .before .enum-told .given .1) _ (promise-made t (c .before .before .before .before .before .before .before .before)) (c .before .before .before .before .match2 .ran) (c .before .before .before .before .match2 .area) (⊎-elim (λ v. is-over _ _ _ _ _ _ (c .before .before .before .before .before .arrive .ensures) _ _ (v .1 .given .1) (v .5) _ _ (v .3)) (λ v. told-as (v .5 .ensures .0) (v .12) (v .10)) (c .before .before .before .before .match2 .came)) (c .enum-told2 .given .1)), trusted-on (c .before .before .before .before .before .before .before .before .before .before .before .before .before .before .before .before .before .before .loop2 .inv .1) (⊎-elim (λ v. trusted-as (c .before .before .before .before .before .before .before .before .before .before .before .before .before .before .before .before .before .before .loop2 .inv .1 .holds) refl (v .4)) (λ v. trusted-as (v .5 .ensures .1) (v .5 .kept .1 .1 .1 .1 .1 .1 .1 .0) (v .11)) (c .before .before .before .before .match2 .came)) .holds)
 
 walk-enum-told-3 : (t : ℕ) → walk-lts.Need-enum-told-3 (walk-claims t) (walk-at t) walk.Post walk-Inv-loop2 walk-μ-loop2 walk-Inv-loop walk-μ-loop
 walk-enum-told-3 t c = search needs
@@ -246,11 +238,10 @@ memory-again t c =
     let q = attempted u _ (u .memory) _ (answerOnly (c .before .before .attempt .result)) _ (c .before .before .attempt .ensures) in
     ⊎-elim
     (λ w. (
-    let taken = w .1 .given .1 in
-    let z = ⊎-elim (λ v. by-promise u (c .before .before .before .before .before .if1 .taken) _ (c .before .before .before .before .step-at .ensures) (answerOnly (c .before .before .attempt .result)) (q .0) _ (v .2 .ensures) _ (v .3)) (λ v. by-none u (c .before .before .before .before .before .if1 .taken) _ (c .before .before .before .before .step-at .ensures) (answerOnly (c .before .before .attempt .result)) (q .0) (v .0 .left) _ (v .1)) (w .3 .came) in
+    let z = promise-made t (record { before = record { before = record { before = record { before = c .before; match = w .0 }; enum-told = w .1 }; struct-known2 = w .2 }; if2 = w .3 }) in
     ap (λ (o : Machine). o .memory) (w .15)
-    ∙ ⊎-elim (λ v. ap (λ (o : Machine). o .memory) (v .3) ∙ v .2 .ensures ∙ off-again u (c .before .before .before .before .before .if1 .taken) _ (c .before .before .before .before .step-at .ensures) (answerOnly (c .before .before .attempt .result)) (q .0) taken _ z (λ e. let l = v .0 .taken in omega arith))
-    (λ v. ap (λ (o : Machine). o .memory) (v .1) ∙ still u (c .before .before .before .before .before .if1 .taken) _ (c .before .before .before .before .step-at .ensures) (answerOnly (c .before .before .attempt .result)) (q .0) taken _ z (let l = v .0 .left in omega arith))
+    ∙ ⊎-elim (λ v. ap (λ (o : Machine). o .memory) (v .3) ∙ v .2 .ensures ∙ off-again u (c .before .before .before .before .before .if1 .taken) _ (c .before .before .before .before .step-at .ensures) (answerOnly (c .before .before .attempt .result)) (q .0) (w .1 .given .1) _ z (λ e. let l = v .0 .taken in omega arith))
+    (λ v. ap (λ (o : Machine). o .memory) (v .1) ∙ still u (c .before .before .before .before .before .if1 .taken) _ (c .before .before .before .before .step-at .ensures) (answerOnly (c .before .before .attempt .result)) (q .0) (w .1 .given .1) _ z (let l = v .0 .left in omega arith))
     (w .9 .came)
     ))
     (λ w. ap (λ (o : Machine). o .memory) (w .4) ∙ u .memory)
@@ -263,7 +254,7 @@ others-again t c =
     let q = attempted u _ (u .memory) _ (answerOnly (c .before .before .attempt .result)) _ (c .before .before .attempt .ensures) in
     ⊎-elim
     (λ w. (
-    let z = ⊎-elim (λ v. by-promise u (c .before .before .before .before .before .if1 .taken) _ (c .before .before .before .before .step-at .ensures) (answerOnly (c .before .before .attempt .result)) (q .0) _ (v .2 .ensures) _ (v .3)) (λ v. by-none u (c .before .before .before .before .before .if1 .taken) _ (c .before .before .before .before .step-at .ensures) (answerOnly (c .before .before .attempt .result)) (q .0) (v .0 .left) _ (v .1)) (w .3 .came) in
+    let z = promise-made t (record { before = record { before = record { before = record { before = c .before; match = w .0 }; enum-told = w .1 }; struct-known2 = w .2 }; if2 = w .3 }) in
     set-others u (c .before .before .attempt .result .thread) (c .match .y)
     (ap (λ (o : Machine). o .threads) (w .15)
     ∙ ⊎-elim (λ v. ap (λ (o : Machine). o .threads) (v .3)) (λ v. ap (λ (o : Machine). o .threads) (v .1)) (w .9 .came)
@@ -289,9 +280,8 @@ walk-loop2-again t c =
     let nx = next-told u _ same-memory _ (c .after-try .ensures) in
     ⊎-elim
     (λ w. (
-      let taken = w .1 .given .1 in
-          let z = ⊎-elim (λ v. by-promise u (c .before .before .before .before .before .before .before .if1 .taken) _ (c .before .before .before .before .before .before .step-at .ensures) (answerOnly (c .before .before .before .before .attempt .result)) (q .0) _ (v .2 .ensures) _ (v .3)) (λ v. by-none u (c .before .before .before .before .before .before .before .if1 .taken) _ (c .before .before .before .before .before .before .step-at .ensures) (answerOnly (c .before .before .before .before .attempt .result)) (q .0) (v .0 .left) _ (v .1)) (w .3 .came) in
-          on u _ (q .1) _ _ _ _ _ (c .before .before .match .y) same-memory (others-again t (c .before .before)) (c .before .before .before .before .before .before .before .if1 .taken) (goes-on u (c .before .before .before .before .before .before .before .if1 .taken) _ (c .before .before .before .before .before .before .step-at .ensures) (answerOnly (c .before .before .before .before .attempt .result)) (q .0) taken _ z (w .7 .ran) (w .7 .area) (⊎-elim (λ v. is-over _ _ _ _ _ _ (w .6 .ensures) _ _ (v .1 .given .1) (v .5) _ _ (v .3)) (λ v. told-as (v .5 .ensures .0) (v .12) (v .10)) (w .7 .came)) _ (w .11 .given .1)) (w .13) (w .16) nx,
+      let z = promise-made t (record { before = record { before = record { before = record { before = c .before .before .before; match = w .0 }; enum-told = w .1 }; struct-known2 = w .2 }; if2 = w .3 }) in
+          on u _ (q .1) _ _ _ _ _ (c .before .before .match .y) same-memory (others-again t (c .before .before)) (c .before .before .before .before .before .before .before .if1 .taken) (goes-on u (c .before .before .before .before .before .before .before .if1 .taken) _ (c .before .before .before .before .before .before .step-at .ensures) (answerOnly (c .before .before .before .before .attempt .result)) (q .0) (w .1 .given .1) _ z (w .7 .ran) (w .7 .area) (⊎-elim (λ v. is-over _ _ _ _ _ _ (w .6 .ensures) _ _ (v .1 .given .1) (v .5) _ _ (v .3)) (λ v. told-as (v .5 .ensures .0) (v .12) (v .10)) (w .7 .came)) _ (w .11 .given .1)) (w .13) (w .16) nx,
       trusted-to (trusted-on (c .before .before .before .before .before .before .before .before .before .loop2 .inv .1) (⊎-elim (λ v. trusted-as (c .before .before .before .before .before .before .before .before .before .loop2 .inv .1 .holds) refl (v .4)) (λ v. trusted-as (v .5 .ensures .1) (v .5 .kept .1 .1 .1 .1 .1 .1 .1 .0) (v .11)) (w .7 .came))) (w .14),
     ))
     (λ w. (
