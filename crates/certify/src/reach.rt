@@ -156,7 +156,7 @@ fn foreseen(c: Code, m: Memory, s: Thread, q: Sought) -> Blind
     }
 }
 
-// The same for a thread at its next load or store, x: times ascending, then the store's own message. What the tries themselves rest on is
+// The search of runs for a thread at its next load or store, x: times ascending, then the store's own message. What the tries themselves rest on is
 // worked out last: most searches that succeed never ask for it. With many messages about, it is asked first whether anything can come of it: what
 // is wanted may be lost, or a load fail whatever it reads.
 fn search_at(c: Code, i: u8, m: Memory, s: Thread, x: Instr, q: Sought) -> Reached
