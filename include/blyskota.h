@@ -15,7 +15,7 @@
  * Numbers of more than one byte are little endian. Places, steps and indexes are 32 bits wide; from a file of 4 GiB or more they
  * are the low 32 bits of the number. Calls keep nothing between them, and may run at the same time on different areas.
  *
- * Stack, by the frames of the code for x86-64: blyskota_read 6 KiB, blyskota_certify 30 KiB, blyskota_step 31 KiB, blyskota_replay 33 KiB,
+ * Stack, by the frames of the code for x86-64: blyskota_read 6 KiB, blyskota_certify 30 KiB, blyskota_step 32 KiB, blyskota_replay 33 KiB,
  * blyskota_search 152 KiB, blyskota_search_within 152 KiB. No proof speaks of it: lend each call as much, and some for what calls it.
  *
  * README.md says byte by byte what a program file and a trace file are.
@@ -89,13 +89,17 @@ extern "C" {
 /* The lengths of the answers. */
 #define BLYSKOTA_READ_ANSWER 495
 #define BLYSKOTA_STEP_ANSWER 342
-#define BLYSKOTA_CERTIFY_ANSWER 2
+#define BLYSKOTA_CERTIFY_ANSWER 36
 #define BLYSKOTA_REPLAY_ANSWER 357
 #define BLYSKOTA_SEARCH_ANSWER 12
 #define BLYSKOTA_SEARCH_WITHIN_ANSWER 16
 
 /* The least trace area for a search: 6 bytes for each of the 80 steps that a trace has at most. */
 #define BLYSKOTA_TRACE 480
+
+/* The kinds of a step of a certifying run. */
+#define BLYSKOTA_EXECUTED 0
+#define BLYSKOTA_OWN_MESSAGE 1
 
 /*
  * Reads a program file. Answer, 495 bytes: refusal (0 none), 3 zero bytes, place u32 (0 where nothing is refused), the program
@@ -110,7 +114,14 @@ uint32_t blyskota_read(const uint8_t *file, size_t file_len, uint8_t *answer, si
 uint32_t blyskota_step(const uint8_t *program, size_t program_len, const uint8_t *machine, size_t machine_len, uint8_t kind,
                        uint8_t thread, uint8_t a, uint8_t b, uint8_t *answer, size_t answer_len);
 
-/* Whether a thread is certified: alone, it can keep its promises. Answer, 2 bytes: refusal (20, 21 or 0), certified (0 or 1). */
+/*
+ * Whether a thread is certified: alone, it can keep its promises; and the first run that shows it, up to where no promise is left. Its
+ * steps are the thread's next instructions in turn; of several runs the first is the one with the earlier time where they part, and a
+ * store's own message comes after the times. Answer, 36 bytes: refusal (20, 21 or 0), certified (0 or 1), length of the run (0 to 16),
+ * 0, then 16 times kind and time: BLYSKOTA_EXECUTED, executed at that time (0 where it is neither load nor store);
+ * BLYSKOTA_OWN_MESSAGE, a store that was not promised before, executed with a message of its own at that time. What lies behind the
+ * run is 0; where the thread is not certified, or the call is refused, the length and all that follows are 0.
+ */
 uint32_t blyskota_certify(const uint8_t *program, size_t program_len, const uint8_t *machine, size_t machine_len, uint8_t thread,
                           uint8_t *answer, size_t answer_len);
 

@@ -58,7 +58,7 @@ class Commands(CommandTest):
                 self.assertEqual((out, err), (printed, ""))
 
     def test_readme(self):
-        self.prints("README.md", 13)
+        self.prints("README.md", 16)
 
     def test_readme_of_programs(self):
         self.prints("programs/README.md", 2)
@@ -68,9 +68,10 @@ class Commands(CommandTest):
 
 
 class Code(unittest.TestCase):
-    def test_the_scanner(self):
-        uncommented = re.sub(r"\A(#.*\n)*", "", text("programs/scanner.litmus"))
-        self.assertIn(uncommented, blocks("README.md"))
+    def test_listings(self):
+        for name in ["scanner", "readback"]:
+            uncommented = re.sub(r"\A(#.*\n)*", "", text(f"programs/{name}.litmus"))
+            self.assertIn(uncommented, blocks("README.md"))
 
     def test_examples(self):
         self.assertEqual(blocks("README.md", "c"), [text("examples/search.c")])

@@ -49,7 +49,7 @@ stepCall p x k area =
 
 unfoldable pub certifyCall : List ℕ → List ℕ → ℕ → List ℕ → Called
 certifyCall p x i area =
-    onArea 2 area
+    onArea 36 area
     (onValue 487 p area
     (onValue 341 x area
     (withAnswer (certifiedBytes (certify (programOf p) (machineOf x) i)) area)))

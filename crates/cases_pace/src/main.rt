@@ -166,7 +166,8 @@ fn certifications(calls: u64) {
     let x = promise(p, promise(p, fresh(), 0, 0, 1), 1, 1, 1);
     let mut sum = 0u64;
     for i in 0..calls {
-        let c = certify(p, with_value(x, i), 0);
+        let r = certify(p, with_value(x, i), 0);
+        let c = r.answer;
         match c {
             Certified::Yes => sum = wrapping_add_u64(sum, 1),
             Certified::No => {}

@@ -59,7 +59,8 @@ fn stepped(name: &[u8], s: Setting, k: Command) -> Machine {
 // c: is the thread certified?
 fn certified(name: &[u8], s: Setting, i: u8) {
     text(name);
-    let answer = certify::certify(s.program, s.machine, i);
+    let r = certify::certify(s.program, s.machine, i);
+    let answer = r.answer;
     match answer {
         Certified::Yes => text(b" yes"),
         Certified::No => text(b" no"),

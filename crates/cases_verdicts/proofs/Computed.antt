@@ -10,7 +10,7 @@ use Rattle.program.specs.Counts.{oneStore, storesAmong, storesFrom, stores, ins
 use Rattle.program.specs.WellFormed.{modeLimit, modeTest, registerTest, kindTest, numberTest, instructionTest, conditionTest, unusedInstruction, unusedCondition, codeTest, programTest}
 use Rattle.machine.specs.State.{freshThread, fresh, has, with, without}
 use Rattle.machine.specs.Rules.{combine, readable, noneNewer, readValue, loadAt, promised, storeAt, execute}
-use Rattle.certify_runs.specs.Certify.{anyFrom, ownMessage, oneMore, certifiedWithin, certified}
+use Rattle.certify_runs.specs.Certify.{orElse, firstFrom, byOwnMessage, oneMore, firstRunWithin, firstRun, certified}
 use Rattle.certify_runs.proofs.Candidates.{relaxed, storesReached, candidates}
 use Rattle.step.specs.Step.{Step, settle, executeStep, promiseStep, kindStep, ruleStep}
 use Rattle.step.specs.Order.{range, forEach}
@@ -26,13 +26,13 @@ use Rattle.cases_verdicts.specs.Cases.{Case, Right}
 
 -- the programs are well formed: this computes
 unfoldable pub formed : List Case → Bool
-unfolding allOf below sumBelow operand computeMode loadMode storeMode fenceMode decode instrAt codeOf oneStore storesAmong storesFrom stores instructions size modeLimit modeTest registerTest kindTest numberTest instructionTest conditionTest unusedInstruction unusedCondition codeTest programTest freshThread fresh has with without combine readable noneNewer readValue loadAt promised storeAt execute anyFrom ownMessage oneMore certifiedWithin certified relaxed storesReached candidates settle executeStep promiseStep kindStep ruleStep range forEach complete lastOf lastValue holds questionHolds asked each hunt insertKey keysOf fewOf few quick
+unfolding allOf below sumBelow operand computeMode loadMode storeMode fenceMode decode instrAt codeOf oneStore storesAmong storesFrom stores instructions size modeLimit modeTest registerTest kindTest numberTest instructionTest conditionTest unusedInstruction unusedCondition codeTest programTest freshThread fresh has with without combine readable noneNewer readValue loadAt promised storeAt execute orElse firstFrom byOwnMessage oneMore firstRunWithin firstRun certified relaxed storesReached candidates settle executeStep promiseStep kindStep ruleStep range forEach complete lastOf lastValue holds questionHolds asked each hunt insertKey keysOf fewOf few quick
 formed [] = true
 formed (c ∷ cs) = programTest (c .asks) && formed cs
 
 -- the quick answers: this computes
 unfoldable pub quicks : List Case → List (Answer Step)
-unfolding allOf below sumBelow operand computeMode loadMode storeMode fenceMode decode instrAt codeOf oneStore storesAmong storesFrom stores instructions size modeLimit modeTest registerTest kindTest numberTest instructionTest conditionTest unusedInstruction unusedCondition codeTest programTest freshThread fresh has with without combine readable noneNewer readValue loadAt promised storeAt execute anyFrom ownMessage oneMore certifiedWithin certified relaxed storesReached candidates settle executeStep promiseStep kindStep ruleStep range forEach complete lastOf lastValue holds questionHolds asked each hunt insertKey keysOf fewOf few quick
+unfolding allOf below sumBelow operand computeMode loadMode storeMode fenceMode decode instrAt codeOf oneStore storesAmong storesFrom stores instructions size modeLimit modeTest registerTest kindTest numberTest instructionTest conditionTest unusedInstruction unusedCondition codeTest programTest freshThread fresh has with without combine readable noneNewer readValue loadAt promised storeAt execute orElse firstFrom byOwnMessage oneMore firstRunWithin firstRun certified relaxed storesReached candidates settle executeStep promiseStep kindStep ruleStep range forEach complete lastOf lastValue holds questionHolds asked each hunt insertKey keysOf fewOf few quick
 quicks cs = map (λ (c : Case). quick (c .asks) (c .budget)) cs
 
 quick-answers : (cs : List Case) → T (formed cs) → map (λ (c : Case). answerTo (c .asks) (c .budget)) cs ≡ quicks cs

@@ -23,8 +23,8 @@ use Rattle.machine.proofs.Words.{ones-eqb}
 use Rattle.machine.proofs.Cases.{was-true, ruled-done, ruled-refused}
 use Rattle.machine.proofs.Effects.{storeLocation, Promised, Effect, computed, loaded, stored, branched, fenced, effect}
 use Rattle.certify_runs.specs.Below.{Code, Operand, StoreMode, Instr, Store, Message, Memory, Thread}
-use Rattle.certify_runs.specs.Certify.{messageOf, onward, certified}
-use Rattle.certify_runs.specs.Inner.{Trying}
+use Rattle.certify_runs.specs.Certify.{messageOf, certified}
+use Rattle.certify_runs.specs.Inner.{Trying, onward}
 use Rattle.certify_runs.specs.Runs.{done, by, own}
 use Rattle.certify_runs.proofs.Iff.{onward-inv, onward-next, certified-iff}
 use Rattle.certify_runs.proofs.Executes.{executes}

@@ -19,8 +19,9 @@ use Rattle.certify_under.proofs.Resting.{load-too-rests, vacant-does, vacant-ze
 use Rattle.certify_straight.specs.Straight.{plainly}
 use Rattle.certify_sought.specs.declared.Met.{Met}
 use Rattle.certify_sought.specs.declared.Sought.{Sought}
-use Rattle.certify_sought.specs.Numbers.{Unmet, same}
+use Rattle.certify_sought.specs.Numbers.{Unmet, Better, same}
 use Rattle.certify_sought.specs.Asks.{Elsewhere, StoresSame, LoadsSame, Asks, Likewise}
+use Rattle.certify_tried.specs.declared.Reached.{Reached}
 use Rattle.certify.specs.Search.{Found}
 
 -- ---- cares that ask more
@@ -32,6 +33,10 @@ covers-on f g = record { agreeing = λ s s' a. g .agreeing s s' (f .agreeing s s
 
 pub rests-less : {k l : List ℕ} {s s' : Thread} → Covers k l → Rests k s s' → Rests l s s'
 rests-less {s = s} {s'} f h = record { under = h .under; agreeing = f .agreeing s s' (h .agreeing) }
+
+-- ---- nothing is sought any more
+pub found-over : (from : ℕ) (p : Met) (P : Thread → ℕ → Type 0) (s : Thread) (r : Reached) → Better from (P s) p (r .met) → ((n : ℕ) → Unmet from (r .met) n → ⊥) → Found from p P s r
+found-over from p P s r better over = record { better = better; barren = λ s' rests k u w. over k u }
 
 -- ---- nothing is found
 pub found-none : (from : ℕ) (p : Met) (P : Thread → ℕ → Type 0) (s : Thread) (k : Cares) → ((s' : Thread) → Rests (k .of) s s' → (j : ℕ) → Unmet from p j → P s' j → ⊥)
@@ -57,6 +62,10 @@ asked-likewise x m s s' q apart k asked rests t y' e =
       load = λ how r a b is. asked .load how r a b is s' (rests .agreeing);
       store = λ how a d is. stores-same {q = q} how a d (rests .under) (asked .store how a d is .store s' (rests .agreeing)) t y' (subst (λ (o : Instr). execute o m t s' ≡ next y') is e);
     }
+
+-- a thread does as itself
+pub likewise-self : (apart : Bool) (x : Instr) (m : Memory) (s : Thread) → Likewise apart x m s s
+likewise-self apart x m s = record { load = λ how r a b is. inl refl; store = λ how a d is. record { place = refl; data-kept = λ t out in-memory at value. refl } }
 
 -- fewer threads do likewise where tries are not apart
 pub likewise-less : {apart apart' : Bool} {x : Instr} {m : Memory} {s s' : Thread} → (apart ≡ true → apart' ≡ true) → Likewise apart x m s s' → Likewise apart' x m s s'

@@ -28,7 +28,7 @@ plain-same p (branched e) = Option·some-injective _ _ p
 plain-same p (fenced e) = Option·some-injective _ _ p
 
 -- it leaves the promises as they were
-plain-promises : (x : Instr) (s s' : Thread) → plainly x s ≡ some s' → s' .promises ≡ s .promises
+pub plain-promises : (x : Instr) (s s' : Thread) → plainly x s ≡ some s' → s' .promises ≡ s .promises
 unfolding plainly
 plain-promises (Compute k r a b) s s' e = ap (λ (y : Thread). y .promises) (sym (Option·some-injective _ _ e))
 plain-promises (Load k r a b) s s' e = absurd (no-thread e)

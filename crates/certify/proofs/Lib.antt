@@ -12,3 +12,4 @@ pub mod Vacant
 pub mod Loadless
 pub mod Forking
 pub mod Losing
+pub mod Showing

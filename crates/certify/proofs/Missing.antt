@@ -51,6 +51,16 @@ use Rattle.certify.proofs.Finding.{covers-self, rests-less, other, no-t
 use Rattle.certify.proofs.Stores.{aim-fits}
 use Rattle.certify.proofs.Vacant.{idle-lifts}
 
+-- ---- what was met
+-- after a try of a load or store it is what the search after it met
+pub noted-met : (x : Instr) (s : Thread) {t : ℕ} {p : Tried} {sub : Reached} {apart : Bool} {r : Tried} → plainly x s ≡ none → Noted x t p sub apart r → r .met ≡ sub .met
+unfolding plainly
+noted-met (Compute how r a b) s halting n = absurd (no-thread-left halting)
+noted-met (Load how r a b) s halting n = n .load how r a b refl .0
+noted-met (Store how a d) s halting n = n .store how a d refl .0
+noted-met (Branch k a b) s halting n = absurd (no-thread-left halting)
+noted-met (Fence how) s halting n = absurd (no-thread-left halting)
+
 -- ---- the times noted
 -- none at first
 pub untried : (u : ℕ) → countedAt (replicate 17 3) u ≡ 3
@@ -269,3 +279,9 @@ module _ (c : Code) (i : ℕ) (m : Memory) (s : Thread) (x : Instr) (q : Sought)
         → (sub : Reached) → Found (q .from) (p .met) (λ v k. Meets c i m v (q .hole) k) z sub → (r : Tried) → Noted x t p sub apart r → Went c i m s x q p t r
     went-resumed y does true idles z is sub found r n = went-apart y does (idles refl) z (is .0 refl) sub found r n
     went-resumed y does false idles z is sub found r n = went-on y does sub (subst (λ (v : Thread). Found (q .from) (p .met) (λ o k. Meets c i m o (q .hole) k) v sub) (is .1 refl) found) r n
+
+    -- what is met after it, in either way, is met by it
+    pub resumed-better : (y : Thread) → execute x m t s ≡ next y → (apart : Bool) → (apart ≡ true → Idles x m s t y (q .hole)) → (z : Thread) → (apart ≡ true → z ≡ cohering y (s .coherence)) × (apart ≡ false → z ≡ y)
+        → {now : Met} → Better (q .from) (Meets c i m z (q .hole)) (p .met) now → Better (q .from) (Through c i m s x t (q .hole)) (p .met) now
+    resumed-better y does true idles z is b = better-as (λ k w. (y, does, idle-lifts c i (q .hole) k x m s t y does (idles refl) (subst (λ (v : Thread). Meets c i m v (q .hole) k) (is .0 refl) w))) b
+    resumed-better y does false idles z is b = better-as (λ k w. (y, does, subst (λ (v : Thread). Meets c i m v (q .hole) k) (is .1 refl) w)) b

@@ -22,9 +22,9 @@ use Rattle.machine.proofs.Cases.{ruled-done, ruled-refused}
 use Rattle.machine.proofs.Memories.{message-stays}
 use Rattle.machine.proofs.Sets.{has-positive, has-time}
 use Rattle.machine.proofs.Effects.{effect, moves}
-use Rattle.certify_runs.specs.Below.{Code, Operand, Constant, OfRegister, StoreMode, Instr, Compute, Load, Store, Branch, Fence, Message, Memory, Thread}
+use Rattle.certify_runs.specs.Below.{Code, Operand, StoreMode, Instr, Compute, Load, Store, Branch, Fence, Message, Memory, Thread}
 use Rattle.certify_runs.specs.Certify.{messageOf}
-use Rattle.certify_runs.proofs.Fit.{no-message, own-effect, own-leaves, comes-fit}
+use Rattle.certify_runs.proofs.Fit.{value-promised, no-message, own-effect, own-leaves, comes-fit}
 use Rattle.certify_ahead.specs.Loadless.{Loadless}
 use Rattle.certify_cares.specs.Cares.{Agrees, Agreeing, Covers}
 use Rattle.certify_cares.specs.declared.Cares.{Cares}
@@ -42,11 +42,6 @@ use Rattle.certify.specs.Search.{Owns, Found}
 use Rattle.certify.proofs.Finding.{rests-less, found-none, other}
 use Rattle.certify.proofs.Stores.{aim-fits}
 use Rattle.certify.proofs.Loadless.{Kept, loadless-law}
-
--- a promise changes no register
-value-promised : (m : Memory) (s : Thread) (a : Operand) → valueOf (addPromise m s) a ≡ valueOf s a
-value-promised m s (Constant n) = refl
-value-promised m s (OfRegister r) = refl
 
 module _ (c : Code) (i : ℕ) (m : Memory) (s : Thread) (x : Instr) (q : Sought) (k : Cares) where
   pub owns-none : ((y : Thread) → messageOf i y x ≡ none) → Found (q .from) (q .met) (λ y j. Owns c i m y x (q .hole) j) s (record { met = q .met; cares = k })
@@ -93,7 +88,7 @@ module _ (c : Code) (i : ℕ) (m : Memory) (s : Thread) (x : Instr) (q : Sought)
     its-store s' j o = subst (λ (z : Instr). execute z (append m (o .message)) ((append m (o .message)) .count) (addPromise (append m (o .message)) s') ≡ next (o .after)) is (o .does)
 
     -- what the thread comes to after it
-    owns-better : (m₁ : Memory) → m₁ ≡ append m (storeMessage i a d s) → u .answer ≡ Done → {p p' : Met} → Better (q .from) (Meets c i m₁ (u .thread) (q .hole)) p p' → Better (q .from) (λ j. Owns c i m s x (q .hole) j) p p'
+    pub owns-better : (m₁ : Memory) → m₁ ≡ append m (storeMessage i a d s) → u .answer ≡ Done → {p p' : Met} → Better (q .from) (Meets c i m₁ (u .thread) (q .hole)) p p' → Better (q .from) (λ j. Owns c i m s x (q .hole) j) p p'
     unfolding ownStore w m'
     owns-better m₁ me z =
         better-as (λ j p. record {

@@ -69,10 +69,6 @@ module _ (c : Code) (i : ℕ) (m : Memory) (s : Thread) (q : Sought) where
       ended s' rests j (by x t y g tl e r) = past s' rests x g
       ended s' rests j (own x w y g gw room e r) = past s' rests x g
 
-  -- nothing is sought any more
-  pub reach-ended : (r : Reached) → Better (q .from) (Meets c i m s (q .hole)) (q .met) (r .met) → ((n : ℕ) → Unmet (q .from) (r .met) n → ⊥) → Found (q .from) (q .met) (λ y j. Meets c i m y (q .hole) j) s r
-  reach-ended r better over = record { better = better; barren = λ s' rests k u w. over k u }
-
   -- ---- its instruction x
   module _ (x : Instr) (is-next : instrAt c (s .position) ≡ some x) (here : Reached) (fills : Filled c i m s x q here) where
     pub fills-meets : Better (q .from) (Meets c i m s (q .hole)) (q .met) (here .met)
@@ -167,10 +163,6 @@ module _ (c : Code) (i : ℕ) (m : Memory) (s y : Thread) (lead : Leads c s y) (
         better = straight-better (emptied-better q p e (done (inl (empty .0, refl, empty .1))));
         barren = λ s' rests j u w. emptied-now q p e (subst (Unmet (q .from) p) (only-zero c i (q .hole) j m s' (empty .0) w) u);
       }
-
-  -- nothing is sought any more
-  pub straight-ended : (r : Reached) → Found (q .from) (q .met) (λ v j. Meets c i m v (q .hole) j) y r → ((n : ℕ) → Unmet (q .from) (r .met) n → ⊥) → Found (q .from) (q .met) (λ v j. Meets c i m v (q .hole) j) s r
-  straight-ended r f over = record { better = straight-better (f .better); barren = λ s' rests j u w. over j u }
 
   pub straight-found : (r : Reached) → Found (q .from) (q .met) (λ v j. Meets c i m v (q .hole) j) y r → (k : Cares)
       → ((s' : Thread) → Rests (k .of) s s' → (y' : Thread) × (Leads c s' y' × Rests (r .cares .of) y y'))

@@ -11,14 +11,17 @@ use lib.Dec.{T}
 use lib.ListN.{set}
 use lib.Seq.{getD-set-other}
 use Rattle.theory_views.specs.Views.{viewAt, raiseAt}
+use Rattle.theory_views.proofs.Merging.{raise-up}
 use Rattle.machine.specs.State.{noMessage, messageAt, append}
 use Rattle.machine.specs.Rules.{next, valueOf, viewOf, viewOf₂, computeDone, branchDone, fenceDone, readable, noneNewer, loadDone, storePre, storeDone, execute, addPromise}
 use Rattle.machine.proofs.Sets.{has-positive}
 use Rattle.machine.proofs.Memories.{message-stays}
 use Rattle.machine.proofs.Effects.{loadLocation, loadPreView, loadPostView, storeLocation, Promised, Effect, computed, loaded, stored, branched, fenced, effect}
 use Rattle.certify_runs.specs.Below.{Code, Operand, Constant, OfRegister, ComputeMode, LoadMode, StoreMode, Instr, Compute, Load, Store, Branch, Fence, Message, Memory, Thread}
+use Rattle.certify_runs.specs.declared.RunStep.{RunStep}
 use Rattle.certify_runs.specs.Certify.{messageOf, certified}
 use Rattle.certify_runs.specs.Runs.{Comes, done, by, own}
+use Rattle.certify_runs.specs.First.{Certifies, stop, go, go-own, First}
 use Rattle.certify_runs.proofs.Iff.{onward-inv, onward-next, certified-iff}
 use Rattle.certify_runs.proofs.Fit.{no-message}
 use Rattle.certify_runs.proofs.Executes.{executes}
@@ -43,6 +46,12 @@ put-again : (xs : List ℕ) (i v : ℕ) → set xs i (viewAt (set xs i v) i) ≡
 put-again [] i v = refl
 put-again (x ∷ xs) zero v = refl
 put-again (x ∷ xs) (suc i) v = ap (λ (r : List ℕ). x ∷ r) (put-again xs i v)
+
+-- what stood there is put back
+put-back : (xs : List ℕ) (i v : ℕ) → set (set xs i v) i (viewAt xs i) ≡ xs
+put-back [] i v = refl
+put-back (x ∷ xs) zero v = refl
+put-back (x ∷ xs) (suc i) v = ap (λ (r : List ℕ). x ∷ r) (put-back xs i v)
 
 -- what a view up to t was is forgotten where it is raised by t
 raise-forgets : (xs : List ℕ) (i v t : ℕ) → v ≤ t → viewAt xs i ≤ t → raiseAt (set xs i v) i t ≡ raiseAt xs i t
@@ -230,6 +239,18 @@ idle-comes {Goal} {Room} {c} {i} {l} {b} pass {m} {z} (own x w z' g gw room e r)
     let f = own-follows l b m' (addPromise m' z) v (o .low) (omega arith) i z x gw (spared-append m w l b (o .vacant) known) (effect x m' (m' .count) (addPromise m' z) z' e) in
     own x w (f .after) g (message-same z _ i x ∙ gw) room (executes (f .does)) (near-too (Comes Goal Room c i m') (f .near) r (idle-comes pass r))
 
+-- and by the same steps
+idle-certifies : {c : Code} {i l b : ℕ} {m : Memory} {z : Thread} {k : List RunStep} → Certifies c i m z k → (v : ℕ) → Idle l b m z v → Certifies c i m (put z l v) k
+idle-certifies (stop e) v o = stop e
+idle-certifies {c} {i} {l} {b} {m} {z} (go {l = k} x t z' out g tl e r) v o =
+    let f = follows l b m z v (o .low) (o .known) (o .vacant) (effect x m t z z' e) in
+    go x t (f .after) out g tl (executes (f .does)) (near-too (λ u. Certifies c i m u k) (f .near) r (λ u near. idle-certifies r u near))
+idle-certifies {c} {i} {l} {b} {m} {z} (go-own {l = k} x w z' out g gw few e r) v o =
+    let m' = append m w in
+    let known = o .known in
+    let f = own-follows l b m' (addPromise m' z) v (o .low) (omega arith) i z x gw (spared-append m w l b (o .vacant) known) (effect x m' (m' .count) (addPromise m' z) z' e) in
+    go-own x w (f .after) out g (message-same z _ i x ∙ gw) few (executes (f .does)) (near-too (λ u. Certifies c i m' u k) (f .near) r (λ u near. idle-certifies r u near))
+
 -- so it is for certification
 idle-certified : (c : Code) (i : ℕ) {l b : ℕ} {m : Memory} {z : Thread} → T (certified c i m z) → (v : ℕ) → Idle l b m z v → T (certified c i m (put z l v))
 idle-certified c i {m = m} {z} t v o = certified-iff c i m _ .1 (idle-comes (λ m z v o e. e) (certified-iff c i m z .0 t) v o)
@@ -270,3 +291,19 @@ idle-lifts c i h k x m s t y does o w = go y (effect (Load (o .mode) (o .registe
     go y (loaded d n) known early w =
         subst (λ (xs : List ℕ). Meets c i m (cohering y xs) h k) (put-again (s .coherence) l _)
         (vacant-law c i h k m (cohering y (s .coherence)) l (viewAt (y .coherence) l) (viewAt (y .coherence) l) (o .vacant) (omega arith) known early w)
+
+-- and its first certifying run is the one with those views
+pub idle-first : (c : Code) (i : ℕ) (x : Instr) (m : Memory) (s : Thread) (t : ℕ) (y : Thread) → execute x m t s ≡ next y → Idles x m s t y 0 → (k : List RunStep) → First c i m (cohering y (s .coherence)) k → First c i m y k
+idle-first c i x m s t y does o k d = go-on y (effect (Load (o .mode) (o .register) (o .a) (o .b)) m t s y (subst (λ (v : Instr). execute v m t s ≡ next y) (o .is-load) does)) (o .known) d
+  where
+    l : ℕ
+    l = loadLocation s (o .a) (o .b)
+
+    go-on : (y : Thread) → Effect m t s (Load (o .mode) (o .register) (o .a) (o .b)) y → viewAt (y .coherence) l ≤ m .count → First c i m (cohering y (s .coherence)) k → First c i m y k
+    go-on y (loaded d n) known f =
+        record {
+          certifies = subst (λ (xs : List ℕ). Certifies c i m (cohering y xs) k) (put-again (s .coherence) l _)
+              (idle-certifies (f .certifies) (viewAt (y .coherence) l) (record { vacant = o .vacant; low = omega arith; known = known }));
+          least = λ j r. f .least j (subst (λ (xs : List ℕ). Certifies c i m (cohering y xs) j) (put-back (s .coherence) l _)
+              (idle-certifies {b = 0} r (viewAt (s .coherence) l) (record { vacant = o .vacant; low = let up = raise-up (s .coherence) l (loadPostView (o .mode) s (o .a) (o .b) t) l in omega arith; known = omega arith })));
+        }

@@ -10,7 +10,8 @@ use lib.Dec.{T}
 use Rattle.machine.specs.State.{append}
 use Rattle.machine.specs.Rules.{next, valueOf, address, execute, addPromise}
 use Rattle.certify_runs.specs.Below.{Code, Operand, LoadMode, Instr, Load, Message, Memory, Thread}
-use Rattle.certify_runs.specs.Certify.{messageOf, onward, certified}
+use Rattle.certify_runs.specs.Certify.{messageOf, certified}
+use Rattle.certify_runs.specs.Inner.{onward}
 use Rattle.certify_cares.specs.Cares.{careOf, Agreeing, AgreeingBut, Covers}
 use Rattle.certify_under.specs.Under.{Rests}
 use Rattle.certify_under.specs.Vacant.{Vacant}
@@ -87,3 +88,8 @@ pub record Went (c : Code) (i : ℕ) (m : Memory) (s : Thread) (x : Instr) (q : 
   pub narrower : r .apart ≡ true → p .apart ≡ true
   pub knows : Knows c i m s x q r
   pub fails : Fails c i m s x q r t
+
+-- what a try at time t answers: what it says is met is; and where a number is sought still, what it makes of what is known
+pub record TriedAt (c : Code) (i : ℕ) (m : Memory) (s : Thread) (x : Instr) (q : Sought) (p : Tried) (t : ℕ) (r : Tried) : Type 0 where
+  pub better : Better (q .from) (Through c i m s x t (q .hole)) (p .met) (r .met)
+  pub went : (n : ℕ) → Unmet (q .from) (r .met) n → Went c i m s x q p t r

@@ -7,9 +7,10 @@ ghost use Rattle.certify_cares.specs.Cares.{Covers};
 ghost use Rattle.certify_straight.specs.Straight.{Halts};
 ghost use Rattle.certify_sought.specs.Asks.{Stores};
 ghost use Rattle.certify_sought.specs.Aim.{Meets};
-ghost use Rattle.certify_sought.specs.Numbers.{Twice};
+ghost use Rattle.certify_sought.specs.Numbers.{Unmet, Twice};
 ghost use Rattle.certify_tried.specs.Tried.{Appends};
-ghost use Rattle.certify.specs.Search.{Owns, Found, Unkept, Filled, Keeps, Knows, Went};
+ghost use Rattle.certify.specs.Search.{Owns, Found, Unkept, Filled, Keeps, Knows, TriedAt};
+ghost use Rattle.certify.specs.Shows.{Shows, ShowsAt, ShowsOwn};
 use crate::own_message;
 use certify_ahead::loads_ahead;
 use certify_cares::Cares;
@@ -26,6 +27,8 @@ use certify_straight::at_position;
 use certify_straight::before_straight;
 use certify_straight::halts;
 use certify_straight::straight;
+use certify_trail::passed;
+use certify_trail::preceded;
 use certify_tried::Reached;
 use certify_tried::Tried;
 use certify_tried::appends;
@@ -60,10 +63,12 @@ pub fn two_reached(c: Code, i: u8, m: Memory, s: Thread, q: Sought) -> Met
     search_runs(c, i, m, s, q).met
 }
 
-// The same, and what it rests on that there is no other.
+// The same, and what it rests on that there is no other; or, where certification is asked for and the thread is certified, the first run that shows
+// it.
 pub fn search_runs(c: Code, i: u8, m: Memory, s: Thread, q: Sought) -> Reached
     requires { ⌜ Ready c m s ⌝ }
     ensures { λ r. ⌜ Found (q .from) (q .met) (λ y k. Meets c i m y (q .hole) k) s r ⌝ }
+    ensures { λ r. ⌜ Shows c i m s q r ⌝ }
 {
     if kept(s, q) {
         return Reached {
@@ -90,16 +95,20 @@ pub fn search_runs(c: Code, i: u8, m: Memory, s: Thread, q: Sought) -> Reached
 // The same for a thread at an instruction that has one way to go on. It is a function of its own so that the walk shares its place on the stack
 // with the tries of loads and stores.
 fn walk_on(c: Code, i: u8, m: Memory, s: Thread, q: Sought) -> Reached
-    requires { ⌜ Ready c m s × ((s .position < c .count) × (Halts c s → ⊥)) ⌝ }
+    requires { ⌜ (Ready c m s × ((s .position < c .count) × (Halts c s → ⊥))) × (q .hole ≡ 0 → s .promises ≡ 0 → ⊥) ⌝ }
     ensures { λ r. ⌜ Found (q .from) (q .met) (λ y k. Meets c i m y (q .hole) k) s r ⌝ }
+    ensures { λ r. ⌜ Shows c i m s q r ⌝ }
 {
     let w = straight(c, s, false);
     let r = search_runs(c, i, m, w.thread, q);
     let met = r.met;
-    if met.ended(q.from) {
-        return r;
-    }
     let rests = r.cares;
+    if met.ended(q.from) {
+        return Reached {
+            met: met,
+            cares: passed(rests, w.count),
+        };
+    }
     Reached {
         met: met,
         cares: before_straight(w, w.count, rests),
@@ -110,16 +119,20 @@ fn walk_on(c: Code, i: u8, m: Memory, s: Thread, q: Sought) -> Reached
 // sought, it does not count which way the thread goes, so that the loads that the branch looks at need not be tried with each value. Where the
 // register counts anyway whose value would be held fast, that would spare nothing.
 fn both_ways(c: Code, i: u8, m: Memory, s: Thread, q: Sought) -> Reached
-    requires { ⌜ Ready c m s × ((s .position < c .count) × (Halts c s → ⊥)) ⌝ }
+    requires { ⌜ (Ready c m s × ((s .position < c .count) × (Halts c s → ⊥))) × (q .hole ≡ 0 → s .promises ≡ 0 → ⊥) ⌝ }
     ensures { λ r. ⌜ Found (q .from) (q .met) (λ y k. Meets c i m y (q .hole) k) s r ⌝ }
+    ensures { λ r. ⌜ Shows c i m s q r ⌝ }
 {
     let w = straight(c, s, true);
     let r = search_runs(c, i, m, w.thread, q);
     let met = r.met;
-    if met.ended(q.from) {
-        return r;
-    }
     let rests = r.cares;
+    if met.ended(q.from) {
+        return Reached {
+            met: met,
+            cares: passed(rests, w.count),
+        };
+    }
     if w.other != 0 {
         if rests.of_register(w.held) == 0 {
             let o = search_runs(c, i, m, at_position(w.thread, w.other), q.after(met));
@@ -142,7 +155,7 @@ fn both_ways(c: Code, i: u8, m: Memory, s: Thread, q: Sought) -> Reached
 // searched, so that nothing of it stays on the stack.
 fn foreseen(c: Code, m: Memory, s: Thread, q: Sought) -> Blind
     requires { ⌜ (c .count ≤ 16) × (m .count ≤ 16) ⌝ }
-    ensures { λ r. ⌜ (r .fails ≡ true → (i : ℕ) → Found (q .from) (q .met) (λ y k. Meets c i m y (q .hole) k) s (r .found)) ⌝ }
+    ensures { λ r. ⌜ (r .fails ≡ true → (i : ℕ) → Found (q .from) (q .met) (λ y k. Meets c i m y (q .hole) k) s (r .found)) × (r .found .met ≡ q .met) ⌝ }
 {
     let met = q.met;
     let gone = fruitless(c, m, s, q.hole, q.from, q.met.second);
@@ -162,6 +175,7 @@ fn foreseen(c: Code, m: Memory, s: Thread, q: Sought) -> Blind
 fn search_at(c: Code, i: u8, m: Memory, s: Thread, x: Instr, q: Sought) -> Reached
     requires { ⌜ Trying c m s x × Unkept s x q ⌝ }
     ensures { λ r. ⌜ Found (q .from) (q .met) (λ y k. Meets c i m y (q .hole) k) s r ⌝ }
+    ensures { λ r. ⌜ Shows c i m s q r ⌝ }
 {
     if worth_a_look(x, c, m, s) {
         let f = foreseen(c, m, s, q);
@@ -273,7 +287,8 @@ fn keeps(c: Code, i: u8, m: Memory, s: Thread, x: Instr, t: u8) -> Reached
 // Whether that is all is asked here already: most certifications end with the store, and a call copies its arguments.
 fn try_at(c: Code, i: u8, m: Memory, s: Thread, x: Instr, t: u8, p: Tried, q: Sought) -> Tried
     requires { ⌜ Trying c m s x × ((t ≤ 16) × Knows c i m s x q p) ⌝ }
-    ensures { λ r. ⌜ Went c i m s x q p t r ⌝ }
+    ensures { λ r. ⌜ TriedAt c i m s x q p t r ⌝ }
+    ensures { λ r. ⌜ ShowsAt c i m s x q (p .met) t r ⌝ }
 {
     let r = execute(x, m, t, s);
     let a = r.answer;
@@ -282,19 +297,20 @@ fn try_at(c: Code, i: u8, m: Memory, s: Thread, x: Instr, t: u8, p: Tried, q: So
     };
     let less = q.after(p.met);
     if kept(r.thread, q) {
-        let cares = p.cares;
-        let counted = p.counted;
-        return Tried {
-            met: emptied(less),
-            tries: p.tries,
-            cares: cares,
-            counted: counted,
-            apart: p.apart,
-        };
+        let all = emptied(less);
+        if all.ended(q.from) {
+            return p.having(all, preceded(Cares { of: [0; 8] }, 0, t));
+        }
+        return p.having(all, p.cares);
     }
     let apart = idle(x, m, s, t, r.thread, q.hole);
     let y = resumed(apart, r.thread, s);
-    noted(x, t, p, search_runs(c, i, m, y, less), apart)
+    let then = search_runs(c, i, m, y, less);
+    let met = then.met;
+    if met.ended(q.from) {
+        return p.having(met, preceded(then.cares, 0, t));
+    }
+    noted(x, t, p, then, apart)
 }
 
 // A store that was not promised before appends a message and fulfils that, and the thread goes on from there. Where no load is left to read the message, its
@@ -310,7 +326,8 @@ fn own_reached(
     appending: bool,
 ) -> Reached
     requires { ⌜ Trying c m s x × Appends c m s x appending ⌝ }
-    ensures { λ r. ⌜ Found (q .from) (q .met) (λ y j. Owns c i m y x (q .hole) j) s r × Covers (r .cares .of) (k .of) ⌝ }
+    ensures { λ r. ⌜ Found (q .from) (q .met) (λ y j. Owns c i m y x (q .hole) j) s r × ((n : ℕ) → Unmet (q .from) (r .met) n → Covers (r .cares .of) (k .of)) ⌝ }
+    ensures { λ r. ⌜ ShowsOwn c i m s x q r ⌝ }
 {
     let met = q.met;
     let none = Reached { met: met, cares: k };
@@ -331,6 +348,12 @@ fn own_reached(
             let then = search_runs(c, i, m.append(w), r.thread, q);
             let known = then.met;
             let rests = then.cares;
+            if known.ended(q.from) {
+                return Reached {
+                    met: known,
+                    cares: preceded(rests, 1, m.count + 1),
+                };
+            }
             let read = loads_ahead(c, s.position);
             Reached {
                 met: known,

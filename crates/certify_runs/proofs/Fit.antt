@@ -14,7 +14,7 @@ use Rattle.machine.specs.State.{append}
 use Rattle.machine.specs.Rules.{valueOf, viewOf, storeDone, addPromise}
 use Rattle.machine.proofs.Sets.{with-without, ones-none, ones-without}
 use Rattle.machine.proofs.Effects.{storeLocation, Effect, computed, loaded, stored, branched, fenced, effect, moves}
-use Rattle.certify_runs.specs.Below.{Code, Operand, StoreMode, Instr, Store, Message, Memory, Thread}
+use Rattle.certify_runs.specs.Below.{Code, Operand, Constant, OfRegister, StoreMode, Instr, Store, Message, Memory, Thread}
 use Rattle.certify_runs.specs.Certify.{messageOf, certified}
 use Rattle.certify_runs.specs.Inner.{outstanding}
 use Rattle.certify_runs.specs.Runs.{Comes, Run, done, by, own}
@@ -29,6 +29,11 @@ takes (branched e) = omega arith
 takes (fenced e) = omega arith
 
 -- ---- a store with its own message
+-- a promise changes no register
+pub value-promised : (m : Memory) (s : Thread) (a : Operand) → valueOf (addPromise m s) a ≡ valueOf s a
+value-promised m s (Constant n) = refl
+value-promised m s (OfRegister r) = refl
+
 -- it is a store, w is its message, and what it makes of the thread s
 pub data Owned (i : ℕ) (m : Memory) (w : Message) (s : Thread) : Instr → Thread → Type 0 where
   owned : {k : StoreMode} {a d : Operand} → w ≡ record { location = storeLocation s a; value = valueOf s d; thread = i }

@@ -1,3 +1,6 @@
+pub mod Tells
+pub mod First
+pub mod Preceding
 pub mod Iff
 pub mod Fit
 pub mod Twins

@@ -1,6 +1,7 @@
 -- What is asked of a code, a memory and a thread before certification starts, and by its laws.
 -- Assumes nothing.
 use mathlib.Core.Path.{_≡_}
+use mathlib.Core.Bool.{Bool, false}
 use mathlib.Core.Option.{some}
 use Prim.Native.Nat.{ℕ, _^_, _≤_, _<_}
 use lib.Count.{ones}
@@ -8,6 +9,7 @@ use lib.ListN.{length, getD}
 use Rattle.program.specs.Program.{instrAt}
 use Rattle.program.specs.Inner.{CodeOk}
 use Rattle.machine.specs.State.{freshForward}
+use Rattle.machine.specs.Rules.{Executed, refused, next}
 use Rattle.certify_runs.specs.Below.{Code, Instr, Memory, Thread}
 
 -- branches land within the code; at most 16 messages; promises are at times of the memory
@@ -31,3 +33,8 @@ pub record Sound (m : Memory) (s : Thread) : Type 0 where
 -- how many promises are outstanding
 abbrev pub outstanding : Thread → ℕ
 outstanding s = ones (s .promises)
+
+-- an instruction was executed, and what it leaves passes
+abbrev pub onward : (Thread → Bool) → Executed → Bool
+onward f (refused n) = false
+onward f (next s) = f s

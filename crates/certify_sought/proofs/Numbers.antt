@@ -3,11 +3,11 @@
 use mathlib.Core.Path.{_≡_, refl, sym, ap₂, subst, _∙_}
 use mathlib.Core.Logic.{_⊎_, inl, inr, ⊎-elim}
 use mathlib.Core.Bool.{Bool, true, false, not, _&&_}
-use Prim.Native.Nat.{ℕ, _+_, _-_, _≤_, _<_}
+use Prim.Native.Nat.{ℕ, suc, _+_, _-_, _≤_, _<_}
 use native.Mathlib.Nat.{le-refl}
 use native.Mathlib.Decide.{ℕ-discrete, decLt}
 use native.Mathlib.Omega.{arith}
-use lib.Dec.{T, eqb, leb, eqb→eq, leb→le}
+use lib.Dec.{T, eqb, leb, eqb→eq, leb→le, le→leb}
 use borrow.Author.Tests.{lt-ltb, le-ltb, le-leb, lt-leb, not-false}
 use Rattle.program.proofs.Tests.{eq→eqb, and-left, and-right}
 use Rattle.certify_sought.specs.Numbers.{Met, Sought, meeting, Unmet, Seeks, Better, same, more, Twice, LeastOrTwo, Emptied}
@@ -57,9 +57,15 @@ met-now from n p u = go (meeting n p) (meets-so n p) u
     go r (single h l e f) u = u .2 (omega arith)
 
 -- ---- what the code asks
--- nothing is left between `from` and the second
-pub none-left : (from : ℕ) (p : Met) → p .least ≡ from → leb (p .second - 1) from ≡ true → (n : ℕ) → Unmet from p n → ⊥
-none-left from p e t n u = let l : p .second - 1 ≤ from = leb→le (p .second - 1) from (subst T (sym t) tt) in let a = u .0 in let b = u .1 in u .2 (omega arith)
+-- whether anything is left between `from` and the second
+module _ (from : ℕ) (p : Met) where
+  pub none-left : p .least ≡ from → leb (p .second - 1) from ≡ true → (n : ℕ) → Unmet from p n → ⊥
+  none-left e t n u = let l : p .second - 1 ≤ from = leb→le (p .second - 1) from (subst T (sym t) tt) in let a = u .0 in let b = u .1 in u .2 (omega arith)
+
+  pub one-left : p .least ≡ from → leb (p .second - 1) from ≡ false → (n : ℕ) × Unmet from p n
+  one-left e f =
+      let l : p .second - 1 ≤ from → ⊥ = λ h. subst T f (le→leb (p .second - 1) from h) in
+      (suc from, (omega arith, omega arith, λ q. omega arith))
 
 pub sought-or-not : (q : Sought) (n : ℕ) → q .from ≤ n → n < q .met .second → (not (eqb n (q .met .least)) ≡ true → Seeks q n) × (not (eqb n (q .met .least)) ≡ false → Seeks q n → ⊥)
 sought-or-not q n low high = (

@@ -9,7 +9,8 @@ use lib.ListN.{set}
 use Rattle.program.specs.Program.{instrAt}
 use Rattle.machine.specs.Rules.{execute}
 use Rattle.certify_runs.specs.Below.{Code, Instr, Message, Memory, Thread}
-use Rattle.certify_runs.specs.Certify.{messageOf, onward, certified}
+use Rattle.certify_runs.specs.Certify.{messageOf, certified}
+use Rattle.certify_runs.specs.Inner.{onward}
 use Rattle.certify_runs.specs.Runs.{Comes, Fewer}
 
 -- the memory with w in place of the message at time h

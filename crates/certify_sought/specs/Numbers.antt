@@ -12,6 +12,10 @@ pub use Rattle.certify_sought.specs.declared.Sought.{Sought}
 abbrev pub meeting : ℕ → Met → Met
 meeting n p = cond (leb (p .least) n) (record { least = p .least; second = n }) (record { least = n; second = cond (ltb (p .least) (p .second)) (p .least) n })
 
+-- an empty promise set is sought, and none was met
+abbrev pub certifying : Sought
+certifying = record { hole = 0; from = 0; met = record { least = 1; second = 1 } }
+
 -- n is from `from` on, and below the second of the numbers met and not the least
 abbrev pub Unmet : ℕ → Met → ℕ → Type 0
 Unmet from p n = (from ≤ n) × (n < p .second) × (n ≡ p .least → ⊥)

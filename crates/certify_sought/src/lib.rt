@@ -6,7 +6,7 @@ mod places;
 ghost use mathlib.Core.Path.{_≡_};
 ghost use mathlib.Core.Bool.{true, false};
 ghost use Prim.Native.Nat.{ℕ};
-ghost use Rattle.certify_sought.specs.Numbers.{Unmet, Seeks, meeting};
+ghost use Rattle.certify_sought.specs.Numbers.{Unmet, Seeks, meeting, certifying};
 
 // The two least numbers that runs have met; where there are fewer, bounds below which numbers are sought. Where the two are the same, only the
 // least number is sought, and they stay the same.
@@ -47,7 +47,7 @@ impl Met {
 
     // No number from `from` on is sought any more.
     pub fn ended(self, from: u16) -> bool
-        ensures { λ r. ⌜ (r ≡ true → (n : ℕ) → Unmet from self n → ⊥) ⌝ }
+        ensures { λ r. ⌜ (r ≡ true → (n : ℕ) → Unmet from self n → ⊥) × (r ≡ false → (n : ℕ) × Unmet from self n) ⌝ }
     {
         if self.second <= from {
             return true;
@@ -70,7 +70,7 @@ pub struct Sought {
 impl Sought {
     // An empty promise set.
     pub fn certified() -> Sought
-        ensures { λ r. ⌜ r ≡ record { hole = 0; from = 0; met = record { least = 1; second = 1 } } ⌝ }
+        ensures { λ r. ⌜ r ≡ certifying ⌝ }
     {
         Sought {
             hole: 0,

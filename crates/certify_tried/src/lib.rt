@@ -19,7 +19,8 @@ use machine::merge::smaller;
 use program::Code;
 use program::Instr;
 
-// The two least numbers met; and what it rests on that no other is met that is sought.
+// The two least numbers met; and what it rests on that no other is met that is sought. Where none is sought any more, it rests on nothing; where it is
+// an empty promise set that was sought and met, the words of the cares hold the run that came to it (`certify_trail`).
 pub struct Reached {
     pub met: Met,
     pub cares: Cares,
@@ -46,6 +47,20 @@ impl Tried {
         Reached {
             met: met,
             cares: cares,
+        }
+    }
+
+    // The tries with these numbers met, and these cares.
+    pub fn having(self, met: Met, cares: Cares) -> Tried
+        ensures { λ r. ⌜ r ≡ record { met = met; tries = self .tries; cares = cares; counted = self .counted; apart = self .apart } ⌝ }
+    {
+        let counted = self.counted;
+        Tried {
+            met: met,
+            tries: self.tries,
+            cares: cares,
+            counted: counted,
+            apart: self.apart,
         }
     }
 }

@@ -4,13 +4,16 @@ use mathlib.Core.Path.{_≡_, refl, _∙_}
 use native.Mathlib.Omega.{arith}
 use lib.ListN.{length, length-append}
 use Rattle.program.specs.declared.FileRead.{FileRead}
+use Rattle.certify_runs.specs.declared.Run.{Run}
+use Rattle.certify.specs.declared.Certification.{Certification}
 use Rattle.step.specs.declared.Stepped.{Stepped}
 use Rattle.trace_replay.specs.declared.Replayed.{Replayed}
 use Rattle.search.specs.declared.Answer.{Answer}
 use Rattle.encode_program.proofs.Lengths.{program-length}
 use Rattle.encode_machine.proofs.Lengths.{machine-length}
 use Rattle.encode_bytes.specs.Numbers.{word32, word64}
-use Rattle.encode_answers.specs.Value.{readBytes, steppedBytes, replayedBytes, foundBytes, searchedBytes, withinBytes}
+use Rattle.encode_bytes.proofs.Entries.{joined-length}
+use Rattle.encode_answers.specs.Value.{readBytes, steppedBytes, entriesBytes, certifiedBytes, replayedBytes, foundBytes, searchedBytes, withinBytes}
 
 pub read-length : (r : FileRead) → length (readBytes r) ≡ 495
 unfolding readBytes
@@ -19,6 +22,13 @@ read-length r = omega (arith, program-length (r .program))
 pub stepped-length : (r : Stepped) → length (steppedBytes r) ≡ 342
 unfolding steppedBytes
 stepped-length r = omega (arith, machine-length (r .machine))
+
+entries-length : (r : Run) → length (entriesBytes r) ≡ 32
+entries-length r = joined-length _ 2 (λ k. refl) 0 16
+
+pub certified-length : (r : Certification) → length (certifiedBytes r) ≡ 36
+unfolding certifiedBytes
+certified-length r = omega (arith, entries-length (r .run))
 
 pub replayed-length : (r : Replayed) → length (replayedBytes r) ≡ 357
 unfolding replayedBytes

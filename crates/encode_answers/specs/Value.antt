@@ -3,13 +3,18 @@
 use mathlib.Core.Bool.{cond}
 use mathlib.Core.List.{List, [], _∷_, _++_}
 use Prim.Native.Nat.{ℕ}
+use lib.ListN.{getD}
 use Rattle.program.specs.declared.FileRead.{FileRead}
-use Rattle.certify.specs.declared.Certified.{Certified}
+use Rattle.certify_runs.specs.declared.RunStep.{RunStep}
+use Rattle.certify_runs.specs.declared.Run.{Run}
+use Rattle.certify_runs.specs.Values.{noStep}
+use Rattle.certify.specs.declared.Certification.{Certification}
 use Rattle.certify.specs.Answers.{certifyRefusal}
 use Rattle.step.specs.declared.Stepped.{Stepped}
 use Rattle.step.specs.Answers.{stepRefusal}
 use Rattle.trace_replay.specs.declared.Replayed.{Replayed}
 use Rattle.search.specs.declared.Answer.{Answer}
+use Rattle.encode_bytes.specs.Lists.{joined}
 use Rattle.encode_bytes.specs.Numbers.{word32, word64}
 use Rattle.encode_numbers.specs.Cases.{readRefusal, readPlace, certifiedByte, replayRefusal, replayFile, replayIndex, replayPlace, verdictByte, searchRefusal, searchPlace}
 use Rattle.encode_program.specs.Value.{programBytes}
@@ -23,9 +28,17 @@ readBytes r = (readRefusal (r .answer) ∷ 0 ∷ 0 ∷ 0 ∷ []) ++ (word32 (rea
 unfoldable pub steppedBytes : Stepped → List ℕ
 steppedBytes r = (stepRefusal (r .answer) ∷ []) ++ machineBytes (r .machine)
 
--- ---- certify: refusal, certified (0 or 1); 2 bytes
-abbrev pub certifiedBytes : Certified → List ℕ
-certifiedBytes r = certifyRefusal r ∷ certifiedByte r ∷ []
+-- ---- certify: an entry of a run; 2 bytes
+abbrev pub entryBytes : RunStep → List ℕ
+entryBytes s = s .kind ∷ s .time ∷ []
+
+-- the 16 entries; 32 bytes
+abbrev pub entriesBytes : Run → List ℕ
+entriesBytes r = joined (λ k. entryBytes (getD (r .steps) k noStep)) 0 16
+
+-- refusal, certified (0 or 1), length of the run that shows it, 0, the entries; 36 bytes
+unfoldable pub certifiedBytes : Certification → List ℕ
+certifiedBytes r = (certifyRefusal (r .answer) ∷ certifiedByte (r .answer) ∷ r .run .count ∷ 0 ∷ []) ++ entriesBytes (r .run)
 
 -- ---- replay: refusal, the file it is in (0 none, 1 program, 2 trace), complete, holds, steps u32, index u32, place u32, the machine value; 357 bytes
 unfoldable pub replayedBytes : Replayed → List ℕ

@@ -1,10 +1,11 @@
 // The bytes of each answer, written at the start of an area that has room for them.
 ghost use mathlib.Core.Path.{_≡_};
-ghost use Prim.Native.Nat.{_≤_};
+ghost use Prim.Native.Nat.{_+_, _≤_};
 ghost use lib.ListN.{length};
 ghost use Rattle.encode_bytes.specs.Inner.{put};
-ghost use Rattle.encode_answers.specs.Value.{readBytes, steppedBytes, certifiedBytes, replayedBytes, foundBytes, searchedBytes, withinBytes};
-use certify::Certified;
+ghost use Rattle.encode_answers.specs.Value.{readBytes, steppedBytes, entriesBytes, certifiedBytes, replayedBytes, foundBytes, searchedBytes, withinBytes};
+use certify::Certification;
+use certify_runs::Run;
 use encode_bytes::put_four;
 use encode_bytes::put_one;
 use encode_bytes::put_two;
@@ -49,11 +50,26 @@ pub fn put_stepped(area: &mut [u8], r: Stepped)
     put_machine(area, 1, r.machine);
 }
 
-pub fn put_certified(area: &mut [u8], a: Certified)
-    requires { ⌜ 2 ≤ length (now area) ⌝ }
-    ensures { λ _. ⌜ now (area .exit) ≡ put 0 (certifiedBytes a) (now (area .entry)) ⌝ }
+// The 16 entries of a run.
+fn put_entries(area: &mut [u8], at: usize, r: Run)
+    requires { ⌜ at + 32 ≤ length (now area) ⌝ }
+    ensures { λ _. ⌜ now (area .exit) ≡ put at (entriesBytes r) (now (area .entry)) ⌝ }
 {
-    put_two(area, 0, certify_refusal(a), certified_byte(a))
+    for k in 0..16 {
+        let s = r.steps[k];
+        put_two(area, at + 2 * k, s.kind, s.time);
+    }
+}
+
+pub fn put_certified(area: &mut [u8], r: Certification)
+    requires { ⌜ 36 ≤ length (now area) ⌝ }
+    ensures { λ _. ⌜ now (area .exit) ≡ put 0 (certifiedBytes r) (now (area .entry)) ⌝ }
+{
+    let a = r.answer;
+    let run = r.run;
+    let certified = certified_byte(a);
+    put_four(area, 0, certify_refusal(a), certified, run.count, 0);
+    put_entries(area, 4, run);
 }
 
 pub fn put_replayed(area: &mut [u8], r: Replayed)

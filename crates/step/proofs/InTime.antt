@@ -12,7 +12,6 @@ use lib.ListN.{length}
 use borrow.Author.Tests.{ltb-false, eqb-false}
 use Rattle.theory_views.specs.Views.{viewAt, raiseAt}
 use Rattle.theory_views.proofs.Merging.{raise-reaches}
-use Rattle.program.specs.declared.Operand.the-variants.{Constant, OfRegister}
 use Rattle.program.specs.Program.{instrAt, codeOf}
 use Rattle.program.specs.WellFormed.{programTest}
 use Rattle.program.proofs.Tests.{and-left, and-right}
@@ -27,9 +26,9 @@ use Rattle.machine.proofs.Formed.{MachineOk, machine-iff}
 use Rattle.certify_runs.specs.Certify.{certified}
 use Rattle.certify_runs.specs.Runs.{Run, Certifying, done, by, own}
 use Rattle.certify_runs.proofs.Iff.{certified-iff}
-use Rattle.certify_runs.proofs.Fit.{Owned, owned, own-effect}
+use Rattle.certify_runs.proofs.Fit.{value-promised, Owned, owned, own-effect}
 use Rattle.certify_runs.proofs.Dead.{Dead, dead-ends}
-use Rattle.certify_runs.specs.Below.{Code, Program, Operand, Instr, Compute, Load, Store, Branch, Fence, Message, Memory, Thread, Machine}
+use Rattle.certify_runs.specs.Below.{Code, Program, Instr, Compute, Load, Store, Branch, Fence, Message, Memory, Thread, Machine}
 use Rattle.step.specs.Step.{Step, rejected, settleRule, executeInstr, executeStep, promiseStep, kindStep, ruleStep, step}
 use Rattle.step.specs.Reached.{Reached, start, on}
 use Rattle.step.proofs.Backwards.{moved, promisedMemory, promisedThread, Did, executed, did}
@@ -52,10 +51,6 @@ late-out (Load k r a b) y t s q = absurd q
 late-out (Store k a d) y t s q = q .0
 late-out (Branch n a b) y t s q = absurd q
 late-out (Fence k) y t s q = absurd q
-
-same-value : (m : Memory) (s : Thread) (a : Operand) → valueOf (addPromise m s) a ≡ valueOf s a
-same-value m s (Constant n) = refl
-same-value m s (OfRegister r) = refl
 
 -- after the store, at whatever time, the coherence view has come up to the promise, which is then out of reach
 module _ {t : ℕ} {m : Memory} {s : Thread} (low : t ≤ m .count) (sixteen : length (s .coherence) ≡ 16) where
@@ -80,7 +75,7 @@ module _ {t : ℕ} {m : Memory} {s : Thread} (low : t ≤ m .count) (sixteen : l
       let n = m .count + 1 in
       let up = raise-reaches (s .coherence) (storeLocation s₁ a) n (omega arith) in
       let hi : t ≤ viewAt (raiseAt (s .coherence) (storeLocation s₁ a) n) (storeLocation s₁ a) = omega arith in
-      let place = ap (λ (y : Message). y .location) (message-stays m w t (has-positive (s .promises) t (q .0)) low) ∙ q .1 ∙ sym (ap address (same-value (append m w) s a)) in
+      let place = ap (λ (y : Message). y .location) (message-stays m w t (has-positive (s .promises) t (q .0)) low) ∙ q .1 ∙ sym (ap address (value-promised (append m w) s a)) in
       record {
         in-memory = omega arith;
         out = subst (λ (p : ℕ). T (has p t)) (sym (with-without (s .promises) n)) (q .0);

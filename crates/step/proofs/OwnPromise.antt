@@ -102,7 +102,7 @@ module _ (p : Program) {x : Machine} (r : Reached p x) (formed : T (programTest 
       → T (readable (x .memory) (loadLocation (threadOf x i) a b) t)
       → T (noneNewer (x .memory) (loadLocation (threadOf x i) a b) t (max (loadPreView k (threadOf x i) a b) (viewAt ((threadOf x i) .coherence) (loadLocation (threadOf x i) a b))))
       → step p x (execution i t) ≡ rejected 29
-  unfolding step ruleStep kindStep executeStep settle certified execute loadAt
+  unfolding step ruleStep kindStep executeStep settle execute loadAt
   own-promise h g late out p26 p27 =
       let s = threadOf x i in
       let m = x .memory in
@@ -115,4 +115,4 @@ module _ (p : Program) {x : Machine} (r : Reached p x) (formed : T (programTest 
       ∙ check-yes (ltb i (p .threads)) 21 (executeInstr p x i t (instrAt (codeOf p i) (s .position))) (lt→ltb i (p .threads) h)
       ∙ ap (executeInstr p x i t) g
       ∙ ap (settleRule p x i) (test-yes (readable m l t) 26 _ p26 ∙ test-yes (noneNewer m l t (max (loadPreView k s a b) (viewAt (s .coherence) l))) 27 (next s') p27)
-      ∙ check-no (certified (codeOf p i) i m s') 29 (accepted (moved x i m s')) (dead-run ((codeOf p i) .count) (codeOf p i) i t m s' d)
+      ∙ check-no (certified (codeOf p i) i m s') 29 (accepted (moved x i m s')) (dead-run (codeOf p i) i t m s' d)

@@ -12,7 +12,8 @@
 //!
 //! - [`Program::read`], which reads a program file, and [`Program::instructions`] and
 //!   [`Program::conditions`], which say what is in it; printed, they look as in a listing;
-//! - [`Machine::step`] and [`Machine::certify`], one step at a time, and [`replay`], a whole trace;
+//! - [`Machine::step`], one step, [`Machine::certify`], which shows how a thread can keep its promises,
+//!   and [`replay`], a whole trace; `examples/certify.rs` uses the first two;
 //! - [`Why`], [`Refused`] and [`ReplayRefused`], which say in words what is refused, and where.
 //!
 //! The answers come from the archive `target/staticlib/libcapi.a`, whose calls are proved; this
@@ -24,6 +25,7 @@ mod machine;
 mod program;
 mod refusal;
 mod replay;
+mod run;
 mod search;
 
 pub use instruction::{Fence, Instruction, LoadMode, Operand, Operation, StoreMode};
@@ -31,6 +33,7 @@ pub use machine::{Machine, Message, Thread};
 pub use program::{Condition, Program};
 pub use refusal::{Refused, Why};
 pub use replay::{replay, File, ReplayRefused, Replayed};
+pub use run::RunStep;
 pub use search::{search, search_within, Answer, TABLE};
 
 /// Bytes of a program value.

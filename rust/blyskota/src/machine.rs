@@ -1,6 +1,6 @@
 //! The machine value and its two calls.
 
-use crate::{array, calls, served, Program, Step, Why, MACHINE};
+use crate::{array, calls, served, Program, RunStep, Step, Why, MACHINE};
 
 /// A machine value: memory and four threads.
 #[derive(Clone, PartialEq, Eq, Debug)]
@@ -62,13 +62,16 @@ impl Machine {
         }
     }
 
-    /// Whether the thread, alone, can keep all its promises.
-    pub fn certify(&self, program: &Program, thread: u8) -> Result<bool, Why> {
-        let mut answer = [0; 2];
+    /// Whether the thread, alone, can keep all its promises: the first run by which it does, or None. Times
+    /// ascend, and a store's own message comes last; the run ends where the first time no promise is left.
+    pub fn certify(&self, program: &Program, thread: u8) -> Result<Option<Vec<RunStep>>, Why> {
+        let mut answer = [0; 36];
         served(calls::certify(program.as_bytes(), &self.0, thread, &mut answer));
-        match answer[0] {
-            0 => Ok(answer[1] == 1),
-            number => Err(Why(number)),
+        let step = |index: u8| RunStep::from_bytes(array(&answer, 4 + 2 * usize::from(index)));
+        match answer[..3] {
+            [0, 1, length] => Ok(Some((0..length).map(step).collect())),
+            [0, ..] => Ok(None),
+            _ => Err(Why(answer[0])),
         }
     }
 

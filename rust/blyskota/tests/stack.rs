@@ -83,5 +83,5 @@ const FIRST_VIEW: usize = 49 + 2;
 fn the_deepest_thread_is_certified() {
     let (program, machine) = deepest();
     let answer = on_a_stack(CERTIFICATION, move || machine.certify(&program, 0));
-    assert_eq!(answer, Ok(true));
+    assert_eq!(answer.map(|run| run.map(|steps| steps.len())), Ok(Some(16)));
 }

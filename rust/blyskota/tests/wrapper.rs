@@ -2,7 +2,7 @@
 
 use blyskota::{
     replay, search, search_within, trace_file, Answer, File, Machine, Message, Program, Refused,
-    ReplayRefused, Step, Why,
+    ReplayRefused, RunStep, Step, Why,
 };
 
 const EMPTY: &[u8] = &[0x50, 0x47, 1, 1, 0x54, 0x48, 0, 0, 0x51, 0x55, 0];
@@ -67,8 +67,8 @@ fn steps() {
     assert_eq!(program.threads(), 2);
     let mut machine = Machine::fresh();
     assert_eq!(machine.step(&program, RUN[1]), Err(Why(26)));
-    for step in RUN {
-        assert_eq!(machine.certify(&program, 0), Ok(true));
+    for (step, kept) in RUN.into_iter().zip([vec![], vec![RunStep::Executed { time: 1 }], vec![]]) {
+        assert_eq!(machine.certify(&program, 0), Ok(Some(kept)));
         machine = machine.step(&program, step).expect("an accepted step");
     }
     assert_eq!(machine.messages(), [Message { location: 0, value: 1, thread: 0 }]);
@@ -77,6 +77,30 @@ fn steps() {
     assert_eq!(machine.step(&program, RUN[2]), Err(Why(25)));
     assert_eq!(machine.certify(&program, 2), Err(Why(21)));
     assert_eq!(Machine::from_bytes([17; 341]).certify(&program, 0), Err(Why(20)));
+}
+
+/// The counting core of `programs/readback.litmus` promises the count first, and can keep that by its
+/// own message of the row. Had it promised another value, which no step allows, it could not.
+#[test]
+fn runs() {
+    let store = |location, kind, value| [0x49, 0x4E, 2, 0, 0, 0, location, kind, value];
+    let mut file = vec![0x50, 0x47, 1, 1, 0x54, 0x48, 0, 3];
+    file.extend(store(0, 0, 1));
+    file.extend([0x49, 0x4E, 1, 0, 0, 0, 0, 0, 0]);
+    file.extend(store(1, 1, 0));
+    file.extend([0x51, 0x55, 0]);
+    let program = Program::read(&file).expect("a good file");
+    let promise = Step::Promise { thread: 0, location: 1, value: 1 };
+    let machine = Machine::fresh().step(&program, promise).expect("an accepted step");
+    let run = machine.certify(&program, 0).expect("a good machine").expect("a certified thread");
+    let said: Vec<String> = run.iter().map(RunStep::to_string).collect();
+    assert_eq!(
+        said,
+        ["executed with its own message, at time 2", "executed at time 2", "executed at time 1"]
+    );
+    let mut bytes = *machine.as_bytes();
+    bytes[1..3].copy_from_slice(&[1, 2]);
+    assert_eq!(Machine::from_bytes(bytes).certify(&program, 0), Ok(None), "no store of 2");
 }
 
 #[test]

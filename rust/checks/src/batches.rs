@@ -3,20 +3,63 @@
 use std::io::Write;
 
 use twin::arbitrary::{
-    any_step, damage, file, likely_step, program, trace, values, walk, Random, LARGE, MIDDLE, SMALL,
+    any_step, damage, file, likely_step, program, promising, trace, values, walk, Random, LARGE, MIDDLE,
+    SMALL,
 };
-use twin::bytes::{machine_bytes, machine_from, program_from};
+use twin::bytes::{machine_bytes, machine_from, program_bytes, program_from};
 use twin::program::Program;
 use twin::search::{search_known, Found, Verdict};
 use twin::step::well_formed;
 
-use crate::{Call, Side, Table};
+use crate::{Call, Left, Side, Table};
 
-/// How often each refusal number was the answer, 0 being none, and each verdict of a search.
+/// How often each refusal number was the answer, 0 being none, and each verdict of a search; and the runs of
+/// certifications.
 #[derive(Default, Debug)]
 pub struct Tally {
     pub refusals: [u32; 31],
     pub verdicts: [u32; 4],
+    pub runs: Runs,
+}
+
+impl Tally {
+    fn add(&mut self, call: &Call, left: &Left) {
+        if let Some(refusal) = call.refusal(left) {
+            self.refusals[refusal as usize] += 1;
+        }
+        if let Some(verdict) = call.verdict(left) {
+            self.verdicts[verdict as usize] += 1;
+        }
+        if let (Some(run), Call::Certify { machine, thread, .. }) = (call.run(left), call) {
+            let machine = machine_from(machine[..].try_into().expect("a served value has its length"));
+            self.runs.add(&run, machine.thread[*thread as usize].promises.count_ones());
+        }
+    }
+}
+
+/// How many runs had each length, and how many had what makes the first one hard to find.
+#[derive(Default, Debug)]
+pub struct Runs {
+    pub of_length: [u32; 17],
+    pub with_own_message: u32,
+    pub with_several_own_messages: u32,
+    pub with_several_promises: u32,
+    /// A load was executed at a time above 0.
+    pub with_message_read: u32,
+}
+
+impl Runs {
+    /// Takes in a run that keeps so many promises.
+    fn add(&mut self, run: &[[u8; 2]], promises: u32) {
+        let own_messages = run.iter().filter(|[kind, _]| *kind == 1).count();
+        let above_0 = run.iter().filter(|[kind, time]| *kind == 0 && *time > 0).count() as u32;
+        self.of_length[run.len()] += 1;
+        self.with_own_message += u32::from(own_messages > 0);
+        self.with_several_own_messages += u32::from(own_messages > 1);
+        self.with_several_promises += u32::from(promises > 1);
+        // Each promise is kept once; any other execution above 0 is a load's.
+        self.with_message_read += u32::from(above_0 > promises);
+    }
 }
 
 /// Asks both sides every call and compares all they leave; a progress line on standard error.
@@ -36,12 +79,7 @@ pub fn compare(
         if left != other {
             return Err(format!("{name} {number}: {call:?}\nroom {room}\n{left:?}\n{other:?}"));
         }
-        if let Some(refusal) = call.refusal(&left) {
-            tally.refusals[refusal as usize] += 1;
-        }
-        if let Some(verdict) = call.verdict(&left) {
-            tally.verdicts[verdict as usize] += 1;
-        }
+        tally.add(&call, &left);
         if (number + 1) % (calls / 10).max(1) == 0 {
             // Written past the test harness, which would hold a print back to the end.
             let _ = writeln!(std::io::stderr(), "{name}: {} of {calls} the same", number + 1);
@@ -141,7 +179,13 @@ pub fn step(random: &mut Random) -> Call {
     Call::Step { program, machine, step }
 }
 
+/// Any thread of any values, or one that has promised something.
 pub fn certify(random: &mut Random) -> Call {
+    if random.one_in(2) {
+        let (program, machine, thread) = promising(random);
+        let (program, machine) = (program_bytes(&program).to_vec(), machine_bytes(&machine).to_vec());
+        return Call::Certify { program, machine, thread };
+    }
     let (program, machine) = any_values(random);
     let threads = program.get(1).copied().unwrap_or(1);
     let thread = if random.one_in(20) { random.byte() } else { random.below(threads.clamp(1, 4)) };

@@ -168,6 +168,13 @@ impl Call {
         (left.code == 0 && self.searches()).then(|| left.answer[0])
     }
 
+    /// The run in the answer of a served certification that says yes: kind and time of each step.
+    pub fn run(&self, left: &Left) -> Option<Vec<[u8; 2]>> {
+        let yes = left.code == 0 && matches!(self, Call::Certify { .. }) && left.answer[1] == 1;
+        let step = |index: usize| [left.answer[4 + 2 * index], left.answer[5 + 2 * index]];
+        yes.then(|| (0..left.answer[2].into()).map(step).collect())
+    }
+
     /// A search's answer begins with the verdict, any other with the refusal number.
     fn searches(&self) -> bool {
         matches!(self, Call::Search { .. } | Call::SearchWithin { .. })

@@ -44,7 +44,23 @@ fn steps() {
 
 #[test]
 fn certifications() {
-    same("certify", 100_000, 104, batches::certify, &[0, 20, 21]);
+    let tally = same("certify", 100_000, 104, batches::certify, &[0, 20, 21]);
+    let runs = &tally.runs;
+    let of_at_least = |steps: usize| runs.of_length[steps..].iter().sum::<u32>();
+    let enough = [
+        ("no run", tally.refusals[0] - of_at_least(0), 10_000),
+        ("an empty run", runs.of_length[0], 10_000),
+        ("a run", of_at_least(1), 10_000),
+        ("a run of 3 steps or more", of_at_least(3), 4_000),
+        ("a run of 8 steps or more", of_at_least(8), 400),
+        ("an own message", runs.with_own_message, 1_500),
+        ("several own messages", runs.with_several_own_messages, 400),
+        ("several promises", runs.with_several_promises, 2_000),
+        ("a message read", runs.with_message_read, 1_000),
+    ];
+    for (what, often, least) in enough {
+        assert!(often >= least, "certify: {what} only {often} times: {tally:?}");
+    }
 }
 
 #[test]
@@ -113,16 +129,17 @@ fn worst_files() {
     }
 }
 
-/// Certifications that have to look at every run.
+/// Certifications that have to look at every run: none keeps the promise, or only the last one.
 #[test]
 fn worst_certifications() {
     let added = (1..=8).map(|loads| worst::unkept(loads, 0));
     let others = [worst::unkept(7, 1), worst::unkept(7, 2), worst::compared()];
-    let unkept = added.chain(others);
-    for (number, (program, machine)) in unkept.enumerate() {
+    let kept = [1, 4, 8].map(worst::kept_last);
+    for (number, (program, machine)) in added.chain(others).chain(kept).enumerate() {
         let (program, machine) = (program_bytes(&program).to_vec(), machine_bytes(&machine).to_vec());
         let call = Call::Certify { program, machine, thread: 1 };
-        assert_eq!(call.ask(&Library, 4), call.ask(&Twin, 4), "{number}");
+        let room = call.answer_length() + 2;
+        assert_eq!(call.ask(&Library, room), call.ask(&Twin, room), "{number}");
     }
 }
 
@@ -163,7 +180,11 @@ impl Side for Wrong {
     }
 
     fn certify(&self, program: &[u8], machine: &[u8], thread: u8, answer: &mut [u8]) -> u32 {
-        Twin.certify(program, machine, thread, answer)
+        let code = Twin.certify(program, machine, thread, answer);
+        if code == 0 && answer[2] == 1 {
+            answer[35] = 1;
+        }
+        code
     }
 
     fn replay(&self, file: &[u8], trace: &[u8], answer: &mut [u8]) -> u32 {
@@ -201,5 +222,6 @@ fn a_wrong_byte_is_noticed() {
     assert!(compare("wrong step", [&Wrong, &Twin], 1_000, 103, batches::step).is_err());
     assert!(compare("wrong search", [&Wrong, &Twin], 100, 105, batches::search).is_err());
     assert!(compare("wrong table", [&Wrong, &Twin], 100, 106, batches::search_within).is_err());
-    assert!(compare("right certify", [&Wrong, &Twin], 100, 104, batches::certify).is_ok());
+    assert!(compare("wrong certify", [&Wrong, &Twin], 1_000, 104, batches::certify).is_err());
+    assert!(compare("right replay", [&Wrong, &Twin], 100, 102, batches::replay).is_ok());
 }

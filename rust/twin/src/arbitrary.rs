@@ -337,13 +337,18 @@ pub fn damaged_machine(random: &mut Random, machine: &Machine) -> Machine {
     machine_from(&bytes)
 }
 
-/// A program value and a machine value for it: reached, well formed, damaged or random bytes.
-pub fn values(random: &mut Random) -> (Vec<u8>, Vec<u8>) {
+/// A well-formed program, and a machine for it that is reached or one that no run need reach.
+fn program_and_machine(random: &mut Random) -> (Program, Machine) {
     let size = random.pick(&[SMALL, MIDDLE, MIDDLE, LARGE, LARGE]);
     let program = program(random, size);
     let tries = random.below(2 * size.instructions);
-    let mut state =
-        if random.one_in(2) { machine(random, &program) } else { walk(random, &program, tries).1 };
+    let state = if random.one_in(2) { machine(random, &program) } else { walk(random, &program, tries).1 };
+    (program, state)
+}
+
+/// A program value and a machine value for it: reached, well formed, damaged or random bytes.
+pub fn values(random: &mut Random) -> (Vec<u8>, Vec<u8>) {
+    let (program, mut state) = program_and_machine(random);
     let mut code = program_bytes(&program).to_vec();
     match random.below(10) {
         0 | 1 => state = damaged_machine(random, &state),
@@ -355,4 +360,31 @@ pub fn values(random: &mut Random) -> (Vec<u8>, Vec<u8>) {
         _ => {}
     }
     (code, machine_bytes(&state).to_vec())
+}
+
+/// The same well-formed ones, and a thread that could store something, with up to three promises more.
+pub fn promising(random: &mut Random) -> (Program, Machine, u8) {
+    let (program, mut state) = program_and_machine(random);
+    let able = |&thread: &u8| !possible_promises(&program, &state, thread).is_empty();
+    let threads: Vec<u8> = (0..program.threads).filter(able).collect();
+    let thread = if threads.is_empty() { 0 } else { random.pick(&threads) };
+    for _ in 0..1 + random.below(3) {
+        promise(random, &program, &mut state, thread);
+    }
+    (program, state, thread)
+}
+
+/// A promise of what the thread could store, if it is certified; now and then all the same.
+fn promise(random: &mut Random, program: &Program, state: &mut Machine, thread: u8) {
+    let promises = possible_promises(program, state, thread);
+    if promises.is_empty() || state.memory.count >= 16 {
+        return;
+    }
+    let step = random.pick(&promises);
+    if let Ok(next) = accepted(program, state, step) {
+        *state = next;
+    } else if random.one_in(4) {
+        let time = state.memory.append(step.a, step.b, thread);
+        state.thread[thread as usize].promise(time);
+    }
 }

@@ -1,8 +1,10 @@
 //! The values as bytes: 487 for a program, 341 for a machine. Any bytes of these lengths are a
 //! value, and writing it gives them back.
 
+use crate::certify::RunStep;
 use crate::machine::{Forward, Machine, Memory, Register, Thread};
 use crate::program::{Code, Condition, Program};
+use crate::step::Step;
 
 pub const PROGRAM: usize = 487;
 pub const MACHINE: usize = 341;
@@ -99,6 +101,14 @@ pub fn machine_bytes(machine: &Machine) -> [u8; MACHINE] {
 }
 
 /// A step as its record in a trace file.
-pub fn step_bytes(step: &crate::step::Step) -> [u8; 6] {
+pub fn step_bytes(step: &Step) -> [u8; 6] {
     [0x53, 0x54, step.kind, step.thread, step.a, step.b]
+}
+
+/// A step of a certifying run: its kind and its time.
+pub fn run_step_bytes(step: &RunStep) -> [u8; 2] {
+    match *step {
+        RunStep::Executed(time) => [0, time],
+        RunStep::OwnMessage(time) => [1, time],
+    }
 }

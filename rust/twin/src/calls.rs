@@ -2,7 +2,9 @@
 //! is shorter than the answer, or 2 where a value has another length than stated (1 before 2). On 1
 //! and 2 nothing is written; otherwise exactly the answer's bytes. Numbers are little endian.
 
-use crate::bytes::{machine_bytes, machine_from, program_bytes, program_from, step_bytes, MACHINE, PROGRAM};
+use crate::bytes::{
+    machine_bytes, machine_from, program_bytes, program_from, run_step_bytes, step_bytes, MACHINE, PROGRAM,
+};
 use crate::machine::Machine;
 use crate::program::{self, Program};
 use crate::replay::{self, In};
@@ -11,10 +13,12 @@ use crate::step::{self, Step};
 
 pub const READ_ANSWER: usize = 8 + PROGRAM;
 pub const STEP_ANSWER: usize = 1 + MACHINE;
-pub const CERTIFY_ANSWER: usize = 2;
+pub const CERTIFY_ANSWER: usize = 4 + 2 * LONGEST_RUN;
 pub const REPLAY_ANSWER: usize = 16 + MACHINE;
 pub const SEARCH_ANSWER: usize = 12;
 pub const SEARCH_WITHIN_ANSWER: usize = 16;
+/// A run has no more steps than the thread has instructions left, which are at most 16.
+const LONGEST_RUN: usize = 16;
 /// A search is refused by 30 where it is lent less for the trace.
 pub const TRACE_AREA: usize = 480;
 
@@ -67,16 +71,21 @@ pub fn step(program: &[u8], machine: &[u8], step: Step, answer: &mut [u8]) -> u3
     write(answer, &bytes)
 }
 
-/// The refusal number or 0, whether the thread is certified.
+/// The refusal number or 0, whether the thread is certified, the length of its run, a byte 0, and two bytes
+/// for each of 16 steps: those of the run, then 0. What is not certified has no run.
 pub fn certify(program: &[u8], machine: &[u8], thread: u8, answer: &mut [u8]) -> u32 {
     let (program, machine) = match values(program, machine, answer, CERTIFY_ANSWER) {
         Ok(values) => values,
         Err(code) => return code,
     };
-    let bytes = match step::certify(&program, &machine, thread) {
-        Ok(certified) => [0, u8::from(certified)],
-        Err(number) => [number, 0],
+    let (number, run) = match step::certify(&program, &machine, thread) {
+        Ok(run) => (0, run),
+        Err(number) => (number, None),
     };
+    let (certified, run) = (run.is_some(), run.unwrap_or_default());
+    let mut bytes = vec![number, u8::from(certified), run.len() as u8, 0];
+    bytes.extend(run.iter().flat_map(run_step_bytes));
+    bytes.resize(CERTIFY_ANSWER, 0);
     write(answer, &bytes)
 }
 

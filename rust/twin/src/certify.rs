@@ -1,5 +1,6 @@
-//! Certification: whether the thread can still keep all its promises with no other thread running.
-//! Once as the rules say it, once quickly; the tests hold them equal.
+//! Certification: whether the thread can still keep all its promises with no other thread running, and
+//! the first run that does. Once as the rules say it, once quickly without the run; the tests hold
+//! them equal.
 
 use std::collections::HashSet;
 
@@ -8,42 +9,77 @@ use crate::machine::{Memory, Thread};
 use crate::program::Code;
 use crate::rules::{common_view, decode, execute, local, Instr, Load, Store};
 
-/// The literal test: all times of every load, and all that can follow each. Steps inside it are not
-/// certified themselves.
-pub fn certified(code: &Code, number: u8, thread: &Thread, memory: &Memory) -> bool {
-    if thread.promises == 0 {
-        return true;
-    }
-    if thread.position >= code.count {
-        return false;
-    }
-    let instr = decode(&code.instructions[thread.position as usize]);
-    let goes_on = |time: u8| match execute(&instr, thread, memory, time) {
-        Ok(next) => certified(code, number, &next, memory),
-        Err(_) => false,
-    };
-    (0..=memory.count).any(goes_on) || appends(code, number, thread, memory, &instr)
+/// A step of a certifying run: what became of the thread's next instruction. Of two ways on, the one
+/// that is tried first is the smaller.
+#[derive(Clone, Copy, PartialEq, Eq, PartialOrd, Ord, Debug)]
+pub enum RunStep {
+    /// Executed at the time: of the message that a load reads, of the promise that a store keeps, and
+    /// 0 for what accesses no memory.
+    Executed(u8),
+    /// A store that wrote its own message, at this new time.
+    OwnMessage(u8),
 }
 
-/// The other way of a store: it writes a message that was not promised, where memory has room.
-fn appends(code: &Code, number: u8, thread: &Thread, memory: &Memory, instr: &Instr) -> bool {
-    let Instr::Store { release, address, data } = *instr else {
-        return false;
+/// The literal test: whether there is a run.
+pub fn certified(code: &Code, number: u8, thread: &Thread, memory: &Memory) -> bool {
+    first_run(code, number, thread, memory).is_some()
+}
+
+/// The first run to an empty promise set, if there is one: each way of the next instruction is tried with
+/// all that can follow it. Steps inside a run are not certified themselves.
+pub fn first_run(code: &Code, number: u8, thread: &Thread, memory: &Memory) -> Option<Vec<RunStep>> {
+    if thread.promises == 0 {
+        return Some(Vec::new());
+    }
+    if thread.position >= code.count {
+        return None;
+    }
+    let instr = decode(&code.instructions[thread.position as usize]);
+    ways(instr, number, thread, memory).find_map(|(step, next, memory)| {
+        let mut run = first_run(code, number, &next, &memory)?;
+        run.insert(0, step);
+        Some(run)
+    })
+}
+
+/// What can become of an instruction, in the order of runs, each with the thread and the memory after it:
+/// it is executed, at every time that the rules allow, ascending; then a store writes its own message.
+pub fn ways<'a>(
+    instr: Instr,
+    number: u8,
+    thread: &'a Thread,
+    memory: &'a Memory,
+) -> impl Iterator<Item = (RunStep, Thread, Memory)> + 'a {
+    let executed = move |time: u8| {
+        let next = execute(&instr, thread, memory, time).ok()?;
+        Some((RunStep::Executed(time), next, *memory))
+    };
+    let own = std::iter::once_with(move || own_message(instr, number, thread, memory)).flatten();
+    (0..=memory.count).filter_map(executed).chain(own)
+}
+
+/// A store with a message that was not promised: where memory has room, it is appended and fulfilled at once.
+fn own_message(
+    instr: Instr,
+    number: u8,
+    thread: &Thread,
+    memory: &Memory,
+) -> Option<(RunStep, Thread, Memory)> {
+    let Instr::Store { release, address, data } = instr else {
+        return None;
     };
     if memory.count >= 16 {
-        return false;
+        return None;
     }
     let store = Store::of(thread, release, address, data);
     let (mut promising, mut longer) = (*thread, *memory);
     let time = longer.append(store.location, store.value, number);
     promising.promise(time);
-    match execute(instr, &promising, &longer, time) {
-        Ok(next) => certified(code, number, &next, &longer),
-        Err(_) => false,
-    }
+    let next = execute(&instr, &promising, &longer, time).ok()?;
+    Some((RunStep::OwnMessage(time), next, longer))
 }
 
-/// The same answer for well-formed values.
+/// What `certified` says of well-formed values.
 pub fn quickly(plan: &Plan, number: u8, thread: &Thread, memory: &mut Memory) -> bool {
     thread.promises == 0 || Alone { plan, number, memory, open: None, failed: HashSet::new() }.reaches(thread)
 }

@@ -1,7 +1,7 @@
 //! One step: what it needs, what it changes, and whether the thread is certified afterwards. Where
 //! several refusals apply, the lowest number is the answer.
 
-use crate::certify;
+use crate::certify::{self, RunStep};
 use crate::machine::{self, Machine};
 use crate::program::{self, Program};
 use crate::rules::{decode, execute};
@@ -70,8 +70,8 @@ fn executed(program: &Program, machine: &Machine, step: Step) -> Result<Machine,
     Ok(next)
 }
 
-/// Certification as a call, which is refused by 20 or 21 only.
-pub fn certify(program: &Program, machine: &Machine, thread: u8) -> Result<bool, u8> {
+/// Certification as a call: the first certifying run, if there is one. It is refused by 20 or 21 only.
+pub fn certify(program: &Program, machine: &Machine, thread: u8) -> Result<Option<Vec<RunStep>>, u8> {
     if !well_formed(program, machine) {
         return Err(20);
     }
@@ -79,5 +79,5 @@ pub fn certify(program: &Program, machine: &Machine, thread: u8) -> Result<bool,
         return Err(21);
     }
     let number = thread as usize;
-    Ok(certify::certified(&program.code[number], thread, &machine.thread[number], &machine.memory))
+    Ok(certify::first_run(&program.code[number], thread, &machine.thread[number], &machine.memory))
 }

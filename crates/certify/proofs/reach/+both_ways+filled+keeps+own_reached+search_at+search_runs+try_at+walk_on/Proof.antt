@@ -1,11 +1,11 @@
 -- The cycle of `certify::reach::search_runs` meets its contracts: each instruction moves the position on.
 -- Assumes nothing.
 use mathlib.Core.Path.{_≡_, refl, sym, ap, subst, _∙_}
-use mathlib.Core.Logic.{⊎-elim}
+use mathlib.Core.Logic.{inl, ⊎-elim}
 use Prim.Native.Nat.{_+_, _-_, _*_, _≤_}
 use native.Mathlib.Nat.{mod-lt}
 use native.Mathlib.Omega.{arith}
-use lib.Dec.{T, lit<}
+use lib.Dec.{lit<}
 use lib.ListN.{length}
 use borrow.Author.Tests.{not-false}
 use borrow.Author.Needs.{needs}
@@ -15,20 +15,23 @@ use Rattle.machine.proofs.Cases.{ruled-done}
 use Rattle.machine.proofs.Effects.{effect}
 use Rattle.certify_cares.specs.Cares.{Covers}
 use Rattle.certify_runs.specs.Below.{Thread}
-use Rattle.certify_sought.specs.Numbers.{Better, same}
+use Rattle.certify_runs.specs.Runs.{done}
+use Rattle.certify_tried.specs.declared.Tried.{Tried}
+use Rattle.certify_sought.specs.Numbers.{certifying, Better, same}
 use Rattle.certify_sought.specs.Aim.{Meets}
 use Rattle.certify.specs.Search.{Missed, Went}
 use Rattle.certify_straight.specs.Straight.{here}
 use Rattle.certify_runs.proofs.Ready.{ready-after, ready-as, ready-own, reach-byte}
 use Rattle.certify_straight.proofs.Plain.{leads-ready, walked-leads}
-use Rattle.certify_sought.proofs.Numbers.{better-on}
-use Rattle.certify.proofs.Finding.{covers-self, covers-on}
+use Rattle.certify_sought.proofs.Numbers.{better-on, emptied-better}
+use Rattle.certify.proofs.Finding.{covers-self, covers-on, found-over}
 use Rattle.certify.proofs.Filling.{fill-no-hole, fill-none, fill-unsought, fill-here, fill-fails, alone-kept, alone-lost, hole-time, trying-filled, keeps-refused, keeps-done}
-use Rattle.certify.proofs.Missing.{knows-none, missed-none, missed-on, went-refused, went-hopeless, went-found, went-resumed, resumed-same}
-use Rattle.certify.proofs.Owning.{owns-none, owns-untried, owns-stuck, owns-on}
+use Rattle.certify.proofs.Missing.{knows-none, missed-none, missed-on, went-refused, went-hopeless, went-found, went-resumed, resumed-same, resumed-better, noted-met}
+use Rattle.certify.proofs.Owning.{owns-none, owns-untried, owns-stuck, owns-better, owns-on}
 use Rattle.certify.proofs.Blind.{blind-found}
+use Rattle.certify.proofs.Showing.{unmet-zero, still-unmet, filled-none, shows-none, shows-stop, shows-walked, shows-missed, shows-emptied, shows-resumed, shows-stored, shows-tried, shows-owned}
 use Rattle.certify.proofs.Forking.{fork-other, both-found, ended-further}
-use Rattle.certify.proofs.Reaching.{reach-end, reach-ended, fills-meets, tried-meets, owns-meets, reach-all, straight-kept, straight-ended, straight-found, further-by, further-own}
+use Rattle.certify.proofs.Reaching.{reach-end, fills-meets, tried-meets, owns-meets, reach-all, straight-kept, straight-better, straight-found, further-by, further-own}
 use Prim.Native.Nat.{ℕ, _<_}
 use borrow.Fn.Kinds.{In}
 use borrow.Fn.PlainCycle.{Measures, is, falls, and}
@@ -66,6 +69,9 @@ use Rattle.certify_sought.proofs.Sought.certified.Reads as certified-reads
 use Rattle.certify_sought.proofs.Sought.seeks.Reads as seeks-reads
 use Rattle.certify_sought.proofs.asks.asks.Reads as asks-reads
 use Rattle.certify_sought.proofs.asks.own_asks.Reads as own-asks-reads
+use Rattle.certify_trail.proofs.passed.Reads as passed-reads
+use Rattle.certify_trail.proofs.preceded.Reads as preceded-reads
+use Rattle.certify_tried.proofs.Tried.having.Reads as having-reads
 use Rattle.certify_tried.proofs.blind.told.Reads as told-reads
 use Rattle.certify_tried.proofs.blind.unread.Reads as unread-reads
 use Rattle.certify_tried.proofs.blind.worth_a_look.Reads as worth-a-look-reads
@@ -183,7 +189,7 @@ abbrev walk-on-below : ℕ → In 0 walk-on-kinds.ps
 walk-on-below t = and 0 walk-on-kinds.ps (falls 0 walk-on-kinds.ps _<_ μ-walk-on t) walk-on.Pre
 
 abbrev both-ways-claims : ℕ → both-ways-lts.Claims
-both-ways-claims t = (straight-reads.Asked, straight-reads.Learnt, search-runs-below t, search-runs.Post, ended-reads.Asked, ended-reads.Learnt, of-register-reads.Asked, of-register-reads.Learnt, at-position-reads.Asked, at-position-reads.Learnt, after-reads.Asked, after-reads.Learnt, is-reads.Asked, is-reads.Learnt, and-reads.Asked, and-reads.Learnt, before-straight-reads.Asked, before-straight-reads.Learnt)
+both-ways-claims t = (straight-reads.Asked, straight-reads.Learnt, search-runs-below t, search-runs.Post, ended-reads.Asked, ended-reads.Learnt, passed-reads.Asked, passed-reads.Learnt, of-register-reads.Asked, of-register-reads.Learnt, at-position-reads.Asked, at-position-reads.Learnt, after-reads.Asked, after-reads.Learnt, is-reads.Asked, is-reads.Learnt, and-reads.Asked, and-reads.Learnt, before-straight-reads.Asked, before-straight-reads.Learnt)
 
 abbrev filled-claims : ℕ → filled-lts.Claims
 filled-claims t = (has-reads.Asked, has-reads.Learnt, own-message-reads.Asked, own-message-reads.Learnt, number-of-reads.Asked, number-of-reads.Learnt, seeks-reads.Asked, seeks-reads.Learnt, with-reads.Asked, with-reads.Learnt, view-of-reads.Asked, view-of-reads.Learnt, below-time-reads.Asked, below-time-reads.Learnt, fill-reads.Asked, fill-reads.Learnt, keeps-below t, keeps.Post)
@@ -192,7 +198,7 @@ abbrev keeps-claims : ℕ → keeps-lts.Claims
 keeps-claims t = (execute-reads.Asked, execute-reads.Learnt, certified-reads.Asked, certified-reads.Learnt, search-runs-below t, search-runs.Post)
 
 abbrev own-reached-claims : ℕ → own-reached-lts.Claims
-own-reached-claims t = (own-store-reads.Asked, own-store-reads.Learnt, own-asks-reads.Asked, own-asks-reads.Learnt, own-message-reads.Asked, own-message-reads.Learnt, append-reads.Asked, append-reads.Learnt, search-runs-below t, search-runs.Post, loads-ahead-reads.Asked, loads-ahead-reads.Learnt, and-reads.Asked, and-reads.Learnt)
+own-reached-claims t = (own-store-reads.Asked, own-store-reads.Learnt, own-asks-reads.Asked, own-asks-reads.Learnt, own-message-reads.Asked, own-message-reads.Learnt, append-reads.Asked, append-reads.Learnt, search-runs-below t, search-runs.Post, ended-reads.Asked, ended-reads.Learnt, preceded-reads.Asked, preceded-reads.Learnt, loads-ahead-reads.Asked, loads-ahead-reads.Learnt, and-reads.Asked, and-reads.Learnt)
 
 abbrev search-at-claims : ℕ → search-at-lts.Claims
 search-at-claims t = (worth-a-look-reads.Asked, worth-a-look-reads.Learnt, foreseen-reads.Asked, foreseen-reads.Learnt, worth-asking-reads.Asked, worth-asking-reads.Learnt, unread-reads.Asked, unread-reads.Learnt, search-runs-below t, search-runs.Post, told-reads.Asked, told-reads.Learnt, earliest-reads.Asked, earliest-reads.Learnt, filled-below t, filled.Post, untried-reads.Asked, untried-reads.Learnt, hopeless-reads.Asked, hopeless-reads.Learnt, try-at-below t, try-at.Post, ended-reads.Asked, ended-reads.Learnt, so-far-reads.Asked, so-far-reads.Learnt, following-reads.Asked, following-reads.Learnt, appends-reads.Asked, appends-reads.Learnt, after-reads.Asked, after-reads.Learnt, own-reached-below t, own-reached.Post, asks-reads.Asked, asks-reads.Learnt, and-reads.Asked, and-reads.Learnt)
@@ -201,27 +207,32 @@ abbrev search-runs-claims : ℕ → search-runs-lts.Claims
 search-runs-claims t = (kept-reads.Asked, kept-reads.Learnt, emptied-reads.Asked, emptied-reads.Learnt, halts-reads.Asked, halts-reads.Learnt, instr-at-reads.Asked, instr-at-reads.Learnt, search-at-below t, search-at.Post, both-ways-below t, both-ways.Post, walk-on-below t, walk-on.Post)
 
 abbrev try-at-claims : ℕ → try-at-lts.Claims
-try-at-claims t = (execute-reads.Asked, execute-reads.Learnt, after-reads.Asked, after-reads.Learnt, kept-reads.Asked, kept-reads.Learnt, emptied-reads.Asked, emptied-reads.Learnt, idle-reads.Asked, idle-reads.Learnt, resumed-reads.Asked, resumed-reads.Learnt, search-runs-below t, search-runs.Post, noted-reads.Asked, noted-reads.Learnt)
+try-at-claims t = (execute-reads.Asked, execute-reads.Learnt, after-reads.Asked, after-reads.Learnt, kept-reads.Asked, kept-reads.Learnt, emptied-reads.Asked, emptied-reads.Learnt, ended-reads.Asked, ended-reads.Learnt, preceded-reads.Asked, preceded-reads.Learnt, having-reads.Asked, having-reads.Learnt, idle-reads.Asked, idle-reads.Learnt, resumed-reads.Asked, resumed-reads.Learnt, search-runs-below t, search-runs.Post, noted-reads.Asked, noted-reads.Learnt)
 
 abbrev walk-on-claims : ℕ → walk-on-lts.Claims
-walk-on-claims t = (straight-reads.Asked, straight-reads.Learnt, search-runs-below t, search-runs.Post, ended-reads.Asked, ended-reads.Learnt, before-straight-reads.Asked, before-straight-reads.Learnt)
+walk-on-claims t = (straight-reads.Asked, straight-reads.Learnt, search-runs-below t, search-runs.Post, ended-reads.Asked, ended-reads.Learnt, passed-reads.Asked, passed-reads.Learnt, before-straight-reads.Asked, before-straight-reads.Learnt)
 
 both-ways-straight-requires : (t : ℕ) → both-ways-lts.Need-straight-requires (both-ways-claims t) (both-ways-at t) both-ways.Post
-both-ways-straight-requires t c κs = c .pre .1 .0 .code-ok
+both-ways-straight-requires t c κs = c .pre .1 .0 .0 .code-ok
 
 both-ways-search-runs-requires : (t : ℕ) → both-ways-lts.Need-search-runs-requires (both-ways-claims t) (both-ways-at t) both-ways.Post
 both-ways-search-runs-requires t c κs =
     let w = c .straight .ensures in
-    let l = ended-further (w .0) (w .1 .0) (c .before .pre .1 .1 .1) in
-    let low = c .before .pre .1 .1 .0 in
-    let short = c .before .pre .1 .0 .code-ok .short in
-    (omega (arith, c .before .pre .0), leads-ready (walked-leads (w .1 .0)) (c .before .pre .1 .0))
+    let l = ended-further (w .0) (w .1 .0) (c .before .pre .1 .0 .1 .1) in
+    let low = c .before .pre .1 .0 .1 .0 in
+    let short = c .before .pre .1 .0 .0 .code-ok .short in
+    (omega (arith, c .before .pre .0), leads-ready (walked-leads (w .1 .0)) (c .before .pre .1 .0 .0))
 
 both-ways-ended-requires : (t : ℕ) → both-ways-lts.Need-ended-requires (both-ways-claims t) (both-ways-at t) both-ways.Post
 both-ways-ended-requires t c κs = search needs
 
+both-ways-passed-requires : (t : ℕ) → both-ways-lts.Need-passed-requires (both-ways-claims t) (both-ways-at t) both-ways.Post
+both-ways-passed-requires t c κs = search needs
+
 both-ways-returns : (t : ℕ) → both-ways-lts.Need-returns (both-ways-claims t) (both-ways-at t) both-ways.Post
-both-ways-returns t c = straight-ended _ _ _ _ _ (walked-leads (c .before .before .before .before .straight .ensures .1 .0)) (c .before .before .before .before .before .args .q) _ (c .before .before .before .search-runs .ensures) (c .before .ended .ensures (c .if1 .taken))
+both-ways-returns t c =
+    let w = c .before .before .before .before .before .before .straight .ensures .1 .0 in
+    (found-over _ _ _ _ _ (straight-better _ _ _ _ _ (walked-leads w) (c .before .before .before .before .before .before .before .args .q) (c .before .before .before .before .before .search-runs .ensures .0 .better)) (c .before .before .ended .ensures .0 (c .before .if1 .taken)), shows-walked (c .before .before .before .before .before .before .before .pre .1 .0 .0 .code-ok .short) (c .before .before .before .before .before .before .before .pre .1 .1) w (c .before .before .before .before .before .search-runs .result) (c .before .before .before .before .before .search-runs .ensures .1) _ (c .passed .ensures))
 
 both-ways-of-register-requires : (t : ℕ) → both-ways-lts.Need-of-register-requires (both-ways-claims t) (both-ways-at t) both-ways.Post
 both-ways-of-register-requires t c κs = search needs
@@ -236,10 +247,10 @@ both-ways-search-runs-requires-2 : (t : ℕ) → both-ways-lts.Need-search-runs-
 both-ways-search-runs-requires-2 t c κs =
     let w = c .before .before .before .before .before .before .before .before .before .before .before .straight .ensures in
     let l = fork-other _ _ _ _ _ _ (w .0 .forks (c .before .before .before .before .if2 .taken)) in
-    let low = c .before .before .before .before .before .before .before .before .before .before .before .before .pre .1 .1 .0 in
-    let short = c .before .before .before .before .before .before .before .before .before .before .before .before .pre .1 .0 .code-ok .short in
+    let low = c .before .before .before .before .before .before .before .before .before .before .before .before .pre .1 .0 .1 .0 in
+    let short = c .before .before .before .before .before .before .before .before .before .before .before .before .pre .1 .0 .0 .code-ok .short in
     let at = ap (λ (v : Thread). v .position) (c .before .at-position .ensures) in
-    (omega (arith, c .before .before .before .before .before .before .before .before .before .before .before .before .pre .0), ready-as (leads-ready (walked-leads (w .1 .0)) (c .before .before .before .before .before .before .before .before .before .before .before .before .pre .1 .0)) (ap (λ (v : Thread). v .promises) (c .before .at-position .ensures)))
+    (omega (arith, c .before .before .before .before .before .before .before .before .before .before .before .before .pre .0), ready-as (leads-ready (walked-leads (w .1 .0)) (c .before .before .before .before .before .before .before .before .before .before .before .before .pre .1 .0 .0)) (ap (λ (v : Thread). v .promises) (c .before .at-position .ensures)))
 
 both-ways-is-requires : (t : ℕ) → both-ways-lts.Need-is-requires (both-ways-claims t) (both-ways-at t) both-ways.Post
 both-ways-is-requires t c κs = search needs
@@ -257,13 +268,13 @@ both-ways-returns-2 : (t : ℕ) → both-ways-lts.Need-returns-2 (both-ways-clai
 both-ways-returns-2 t c =
     let w = c .before .before .before .before .before .before .before .before .before .before .before .before .before .before .before .before .before .before .straight .ensures in
     let f = w .0 .forks (c .before .before .before .before .before .before .before .before .before .before .before .if2 .taken) in
-    both-found _ _ _ _ _ _ f _ _ (walked-leads (w .1 .0)) (c .before .before .before .before .before .before .before .before .before .before .before .before .before .before .before .before .before .before .before .args .q) _ (c .before .before .before .before .before .before .before .before .before .before .before .before .before .before .before .before .before .search-runs .ensures) _ (c .before .before .before .before .before .before .before .before .at-position .ensures) _ (rw (c .before .before .before .before .before .before .before .after .ensures) at (c .before .before .before .before .before .before .search-runs2 .ensures)) (c .before .before .before .before .is .ensures (c .before .before .before .if4 .taken)) _ _ (c .before .and .ensures) (λ s'. c .before-straight .ensures _ _ _ s' (f .walked))
+    (both-found _ _ _ _ _ _ f _ _ (walked-leads (w .1 .0)) (c .before .before .before .before .before .before .before .before .before .before .before .before .before .before .before .before .before .before .before .args .q) _ (c .before .before .before .before .before .before .before .before .before .before .before .before .before .before .before .before .before .search-runs .ensures .0) _ (c .before .before .before .before .before .before .before .before .at-position .ensures) _ (rw (c .before .before .before .before .before .before .before .after .ensures) at (c .before .before .before .before .before .before .search-runs2 .ensures .0)) (c .before .before .before .before .is .ensures (c .before .before .before .if4 .taken)) _ _ (c .before .and .ensures) (λ s'. c .before-straight .ensures _ _ _ s' (f .walked)), shows-none (c .before .before .before .before .before .before .before .before .before .before .before .before .before .before .before .before .before .before .before .args .q) _ (λ e. still-unmet (c .before .before .before .before .before .before .before .before .before .before .before .before .before .before .before .before .before .before .before .args .q) e _ _ refl (c .before .before .before .before .before .before .before .before .before .before .before .before .before .before .before .before .before .search-runs .ensures .0 .better) (c .before .before .before .before .before .before .before .before .before .before .before .before .before .before .ended .ensures .1 (c .before .before .before .before .before .before .before .before .before .before .before .before .before .if1 .left))))
 
 both-ways-before-straight-requires-2 : (t : ℕ) → both-ways-lts.Need-before-straight-requires-2 (both-ways-claims t) (both-ways-at t) both-ways.Post
 both-ways-before-straight-requires-2 t c κs = c .before .before .before .before .before .before .before .straight .ensures .1 .1
 
 both-ways-returns-3 : (t : ℕ) → both-ways-lts.Need-returns-3 (both-ways-claims t) (both-ways-at t) both-ways.Post
-both-ways-returns-3 t c = straight-found _ _ _ _ _ (walked-leads (c .before .before .before .before .before .before .before .before .straight .ensures .1 .0)) (c .before .before .before .before .before .before .before .before .before .args .q) _ (c .before .before .before .before .before .before .before .search-runs .ensures) _ (λ s'. c .before-straight2 .ensures _ _ _ s' (c .before .before .before .before .before .before .before .before .straight .ensures .1 .0))
+both-ways-returns-3 t c = (straight-found _ _ _ _ _ (walked-leads (c .before .before .before .before .before .before .before .before .straight .ensures .1 .0)) (c .before .before .before .before .before .before .before .before .before .args .q) _ (c .before .before .before .before .before .before .before .search-runs .ensures .0) _ (λ s'. c .before-straight2 .ensures _ _ _ s' (c .before .before .before .before .before .before .before .before .straight .ensures .1 .0)), shows-none (c .before .before .before .before .before .before .before .before .before .args .q) _ (λ e. still-unmet (c .before .before .before .before .before .before .before .before .before .args .q) e _ _ refl (c .before .before .before .before .before .before .before .search-runs .ensures .0 .better) (c .before .before .before .before .ended .ensures .1 (c .before .before .before .if1 .left))))
 
 places : (t : ℕ) (c : filled-lts.Start (filled-claims t) (filled-at t) filled.Post) → length (c .args .m .messages) ≡ 16
 places t c = search length-mapped depth 7
@@ -370,10 +381,10 @@ keeps-search-runs-requires : (t : ℕ) → keeps-lts.Need-search-runs-requires (
 keeps-search-runs-requires t c κs = let d = ruled-done _ _ _ (c .before .before .before .execute .ensures) (c .before .enum-told .given .1) in let f = further-by _ _ _ _ (c .before .before .before .before .pre .1 .0) _ _ d in (omega (arith, c .before .before .before .before .pre .0), ready-after (c .before .before .before .before .pre .1 .0 .ready) (effect _ _ _ _ _ d))
 
 keeps-returns-2 : (t : ℕ) → keeps-lts.Need-returns-2 (keeps-claims t) (keeps-at t) keeps.Post
-keeps-returns-2 t c = keeps-done _ _ _ _ _ _ (c .before .before .before .before .before .pre .1 .1) _ (c .before .before .before .before .execute .ensures) (c .before .before .enum-told .given .1) _ (rw (c .before .certified .ensures) at (c .search-runs .ensures))
+keeps-returns-2 t c = keeps-done _ _ _ _ _ _ (c .before .before .before .before .before .pre .1 .1) _ (c .before .before .before .before .execute .ensures) (c .before .before .enum-told .given .1) _ (rw (c .before .certified .ensures) at (c .search-runs .ensures .0))
 
 own-reached-returns : (t : ℕ) → own-reached-lts.Need-returns (own-reached-claims t) (own-reached-at t) own-reached.Post
-own-reached-returns t c = (owns-untried _ _ _ _ _ (c .before .before .args .q) _ _ (c .before .before .pre .1 .1) (c .if1 .taken), covers-self _)
+own-reached-returns t c = ((owns-untried _ _ _ _ _ (c .before .before .args .q) _ _ (c .before .before .pre .1 .1) (c .if1 .taken), λ n u. covers-self _), λ e z. unmet-zero (c .before .before .args .q) e _ refl z)
 
 own-reached-enum-known-x : (t : ℕ) → own-reached-lts.Need-enum-known-x (own-reached-claims t) (own-reached-at t) own-reached.Post
 own-reached-enum-known-x t c = search needs
@@ -398,7 +409,7 @@ own-reached-own-asks-requires t c κs = search needs
 own-reached-returns-2 : (t : ℕ) → own-reached-lts.Need-returns-2 (own-reached-claims t) (own-reached-at t) own-reached.Post
 own-reached-returns-2 t c =
     let asked = c .own-asks .ensures in
-    (owns-stuck _ _ _ _ _ (c .before .before .before .before .before .before .before .before .before .args .q) (c .before .before .before .before .before .before .before .before .before .args .k) _ _ _ (c .before .before .before .before .before .x .given .1) (c .before .before .before .before .before .before .before .before .before .pre .1 .1 .room (not-false _ (c .before .before .before .before .before .before .before .if1 .left))) _ (c .before .before .before .own-store .ensures) _ (asked .place) (asked .value refl) _ (c .before .enum-told2 .given .1), record { agreeing = asked .besides })
+    ((owns-stuck _ _ _ _ _ (c .before .before .before .before .before .before .before .before .before .args .q) (c .before .before .before .before .before .before .before .before .before .args .k) _ _ _ (c .before .before .before .before .before .x .given .1) (c .before .before .before .before .before .before .before .before .before .pre .1 .1 .room (not-false _ (c .before .before .before .before .before .before .before .if1 .left))) _ (c .before .before .before .own-store .ensures) _ (asked .place) (asked .value refl) _ (c .before .enum-told2 .given .1), λ n u. record { agreeing = asked .besides }), λ e z. unmet-zero (c .before .before .before .before .before .before .before .before .before .args .q) e _ refl z)
 
 own-reached-own-message-requires : (t : ℕ) → own-reached-lts.Need-own-message-requires (own-reached-claims t) (own-reached-at t) own-reached.Post
 own-reached-own-message-requires t c κs = search needs
@@ -412,8 +423,23 @@ own-reached-search-runs-requires t c κs =
     let f = further-own _ _ _ _ w _ _ _ (c .before .before .before .before .before .before .x .given .1) _ _ (c .before .before .before .before .own-store .ensures) (c .before .before .enum-told .given .1) in
     (omega (arith, c .before .before .before .before .before .before .before .before .before .before .pre .0), rw (c .append .ensures, c .before .own-message .ensures) (ready-own _ _ _ _ _ (w .ready) (c .before .before .before .before .before .before .before .before .before .before .pre .1 .1 .room (not-false _ (c .before .before .before .before .before .before .before .before .if1 .left))) (ruled-done _ _ _ (c .before .before .before .before .own-store .ensures) (c .before .before .enum-told .given .1))))
 
+own-reached-returns-3 : (t : ℕ) → own-reached-lts.Need-returns-3 (own-reached-claims t) (own-reached-at t) own-reached.Post
+own-reached-returns-3 t c = (
+  (found-over _ _ _ _ _ (owns-better _ _ _ _ _ (c .before .before .before .before .before .before .before .before .before .before .before .before .before .before .before .before .before .args .q) (c .before .before .before .before .before .before .before .before .before .before .before .before .before .before .before .before .before .args .k) _ _ _ (c .before .before .before .before .before .before .before .before .before .before .before .before .before .x .given .1) (c .before .before .before .before .before .before .before .before .before .before .before .before .before .before .before .before .before .pre .1 .1 .room (not-false _ (c .before .before .before .before .before .before .before .before .before .before .before .before .before .before .before .if1 .left))) _ (c .before .before .before .before .before .before .before .before .before .before .before .own-store .ensures) _ (rw (c .before .before .before .before .before .before .before .append .ensures, c .before .before .before .before .before .before .before .before .own-message .ensures)) (c .before .before .before .before .before .before .before .before .before .enum-told .given .1) (c .before .before .before .before .before .before .search-runs .ensures .0 .better)) (c .before .before .before .ended .ensures .0 (c .before .before .if2 .taken)), λ n u. absurd (c .before .before .before .ended .ensures .0 (c .before .before .if2 .taken) n u)),
+  shows-stored (c .before .before .before .before .before .before .before .before .before .before .before .before .before .before .before .before .before .pre .1 .0) (c .before .before .before .before .before .before .before .before .before .before .before .before .before .before .before .before .before .args .q) _ _ _ (c .before .before .before .before .before .before .before .before .before .before .before .before .before .x .given .1) (c .before .before .before .before .before .before .before .before .before .before .before .before .before .before .before .before .before .pre .1 .1 .room (not-false _ (c .before .before .before .before .before .before .before .before .before .before .before .before .before .before .before .if1 .left))) _ (c .before .before .before .before .before .before .before .before .before .before .before .own-store .ensures) (c .before .before .before .before .before .before .before .before .before .enum-told .given .1) _ (rw (c .before .before .before .before .before .before .before .append .ensures, c .before .before .before .before .before .before .before .before .own-message .ensures)) (c .before .before .before .before .before .before .search-runs .result) (c .before .before .before .before .before .before .search-runs .ensures .1) _ (c .preceded .ensures),
+)
+
+own-reached-preceded-requires : (t : ℕ) → own-reached-lts.Need-preceded-requires (own-reached-claims t) (own-reached-at t) own-reached.Post
+own-reached-preceded-requires t c κs = let room = c .before .before .before .before .before .before .before .before .before .before .before .before .before .before .before .before .pre .1 .1 .room (not-false _ (c .before .before .before .before .before .before .before .before .before .before .before .before .before .before .if1 .left)) in (lit< tt, omega arith)
+
+own-reached-add-preceded : (t : ℕ) → own-reached-lts.Need-add-preceded (own-reached-claims t) (own-reached-at t) own-reached.Post
+own-reached-add-preceded t c = let room = c .before .before .before .before .before .before .before .before .before .before .before .before .before .before .before .before .pre .1 .1 .room (not-false _ (c .before .before .before .before .before .before .before .before .before .before .before .before .before .before .if1 .left)) in omega arith
+
+own-reached-ended-requires : (t : ℕ) → own-reached-lts.Need-ended-requires (own-reached-claims t) (own-reached-at t) own-reached.Post
+own-reached-ended-requires t c κs = search needs
+
 own-reached-loads-ahead-requires : (t : ℕ) → own-reached-lts.Need-loads-ahead-requires (own-reached-claims t) (own-reached-at t) own-reached.Post
-own-reached-loads-ahead-requires t c κs = c .before .before .before .before .before .before .before .before .before .before .before .before .before .pre .1 .0 .ready .code-ok .short
+own-reached-loads-ahead-requires t c κs = c .before .before .before .before .before .before .before .before .before .before .before .before .before .before .before .pre .1 .0 .ready .code-ok .short
 
 own-reached-own-asks-requires-2 : (t : ℕ) → own-reached-lts.Need-own-asks-requires-2 (own-reached-claims t) (own-reached-at t) own-reached.Post
 own-reached-own-asks-requires-2 t c κs = search needs
@@ -433,25 +459,25 @@ own-reached-enum-told-5 t c = search needs
 own-reached-enum-told-6 : (t : ℕ) → own-reached-lts.Need-enum-told-6 (own-reached-claims t) (own-reached-at t) own-reached.Post
 own-reached-enum-told-6 t c = search needs
 
-own-reached-returns-3 : (t : ℕ) → own-reached-lts.Need-returns-3 (own-reached-claims t) (own-reached-at t) own-reached.Post
-own-reached-returns-3 t c =
-    let asked = c .before .own-asks2 .ensures in
-    (owns-on _ _ _ _ _ (c .before .before .before .before .before .before .before .before .before .before .before .before .before .before .before .before .args .q) (c .before .before .before .before .before .before .before .before .before .before .before .before .before .before .before .before .args .k) _ _ _ (c .before .before .before .before .before .before .before .before .before .before .before .before .x .given .1) (c .before .before .before .before .before .before .before .before .before .before .before .before .before .before .before .before .pre .1 .1 .room (not-false _ (c .before .before .before .before .before .before .before .before .before .before .before .before .before .before .if1 .left))) _ (c .before .before .before .before .before .before .before .before .before .before .own-store .ensures) _ (asked .place) _ (asked .value) (c .before .before .loads-ahead .ensures) (c .before .before .before .before .before .before .before .before .before .before .before .before .before .before .before .before .pre .1 .0 .ready .promises-in) _ (rw (c .before .before .before .before .before .before .append .ensures, c .before .before .before .before .before .before .before .own-message .ensures)) (c .before .before .before .before .before .before .before .before .enum-told .given .1) _ (c .before .before .before .before .before .search-runs .ensures) _ (c .and .ensures .0) (c .and .ensures .1), covers-on (c .and .ensures .1) (record { agreeing = asked .besides }))
-
 own-reached-returns-4 : (t : ℕ) → own-reached-lts.Need-returns-4 (own-reached-claims t) (own-reached-at t) own-reached.Post
-own-reached-returns-4 t c = (owns-none _ _ _ _ _ (c .before .before .before .before .args .q) _ (λ y. rw (c .enum-told3 .given .1)), covers-self _)
+own-reached-returns-4 t c =
+    let asked = c .before .own-asks2 .ensures in
+    ((owns-on _ _ _ _ _ (c .before .before .before .before .before .before .before .before .before .before .before .before .before .before .before .before .before .before .args .q) (c .before .before .before .before .before .before .before .before .before .before .before .before .before .before .before .before .before .before .args .k) _ _ _ (c .before .before .before .before .before .before .before .before .before .before .before .before .before .before .x .given .1) (c .before .before .before .before .before .before .before .before .before .before .before .before .before .before .before .before .before .before .pre .1 .1 .room (not-false _ (c .before .before .before .before .before .before .before .before .before .before .before .before .before .before .before .before .if1 .left))) _ (c .before .before .before .before .before .before .before .before .before .before .before .before .own-store .ensures) _ (asked .place) _ (asked .value) (c .before .before .loads-ahead .ensures) (c .before .before .before .before .before .before .before .before .before .before .before .before .before .before .before .before .before .before .pre .1 .0 .ready .promises-in) _ (rw (c .before .before .before .before .before .before .before .before .append .ensures, c .before .before .before .before .before .before .before .before .before .own-message .ensures)) (c .before .before .before .before .before .before .before .before .before .before .enum-told .given .1) _ (c .before .before .before .before .before .before .before .search-runs .ensures .0) _ (c .and .ensures .0) (c .and .ensures .1), λ n u. covers-on (c .and .ensures .1) (record { agreeing = asked .besides })), λ e z. unmet-zero (c .before .before .before .before .before .before .before .before .before .before .before .before .before .before .before .before .before .before .args .q) e _ (still-unmet (c .before .before .before .before .before .before .before .before .before .before .before .before .before .before .before .before .before .before .args .q) e _ _ refl (c .before .before .before .before .before .before .before .search-runs .ensures .0 .better) (c .before .before .before .before .ended .ensures .1 (c .before .before .before .if2 .left))) z)
 
 own-reached-returns-5 : (t : ℕ) → own-reached-lts.Need-returns-5 (own-reached-claims t) (own-reached-at t) own-reached.Post
-own-reached-returns-5 t c = (owns-none _ _ _ _ _ (c .before .before .before .before .args .q) _ (λ y. rw (c .enum-told4 .given .1)), covers-self _)
+own-reached-returns-5 t c = ((owns-none _ _ _ _ _ (c .before .before .before .before .args .q) _ (λ y. rw (c .enum-told3 .given .1)), λ n u. covers-self _), λ e z. unmet-zero (c .before .before .before .before .args .q) e _ refl z)
 
 own-reached-returns-6 : (t : ℕ) → own-reached-lts.Need-returns-6 (own-reached-claims t) (own-reached-at t) own-reached.Post
-own-reached-returns-6 t c = (owns-none _ _ _ _ _ (c .before .before .before .before .args .q) _ (λ y. rw (c .enum-told5 .given .1)), covers-self _)
+own-reached-returns-6 t c = ((owns-none _ _ _ _ _ (c .before .before .before .before .args .q) _ (λ y. rw (c .enum-told4 .given .1)), λ n u. covers-self _), λ e z. unmet-zero (c .before .before .before .before .args .q) e _ refl z)
 
 own-reached-returns-7 : (t : ℕ) → own-reached-lts.Need-returns-7 (own-reached-claims t) (own-reached-at t) own-reached.Post
-own-reached-returns-7 t c = (owns-none _ _ _ _ _ (c .before .before .before .before .args .q) _ (λ y. rw (c .enum-told6 .given .1)), covers-self _)
+own-reached-returns-7 t c = ((owns-none _ _ _ _ _ (c .before .before .before .before .args .q) _ (λ y. rw (c .enum-told5 .given .1)), λ n u. covers-self _), λ e z. unmet-zero (c .before .before .before .before .args .q) e _ refl z)
+
+own-reached-returns-8 : (t : ℕ) → own-reached-lts.Need-returns-8 (own-reached-claims t) (own-reached-at t) own-reached.Post
+own-reached-returns-8 t c = ((owns-none _ _ _ _ _ (c .before .before .before .before .args .q) _ (λ y. rw (c .enum-told6 .given .1)), λ n u. covers-self _), λ e z. unmet-zero (c .before .before .before .before .args .q) e _ refl z)
 
 abbrev search-at-Inv-loop : search-at-lts.InvT-loop
-search-at-Inv-loop c i m s x q t₀ r₀ t r = Missed c i m s x q r 0 t × (Better (q .from) (Meets c i m s (q .hole)) (r₀ .met) (r .met) × (Covers (r .cares .of) (r₀ .cares .of) × (t ≤ 17)))
+search-at-Inv-loop c i m s x q t₀ r₀ t r = Missed c i m s x q r 0 t × (Better (q .from) (Meets c i m s (q .hole)) (r₀ .met) (r .met) × (Covers (r .cares .of) (r₀ .cares .of) × ((t ≤ 17) × (q ≡ certifying → r .met ≡ q .met))))
 
 abbrev search-at-μ-loop : search-at-lts.MeasureT-loop
 search-at-μ-loop c i m s x q t₀ r₀ t r = 17 - t
@@ -463,7 +489,7 @@ search-at-foreseen-requires : (t : ℕ) → search-at-lts.Need-foreseen-requires
 search-at-foreseen-requires t c κs = let w = c .before .before .pre .1 .0 in (w .ready .code-ok .short, w .ready .room)
 
 search-at-returns : (t : ℕ) → search-at-lts.Need-returns (search-at-claims t) (search-at-at t) search-at.Post search-at-Inv-loop search-at-μ-loop
-search-at-returns t c = c .before .before .foreseen .ensures (c .before .if2 .taken) _
+search-at-returns t c = (c .before .before .foreseen .ensures .0 (c .before .if2 .taken) _, shows-none (c .before .before .before .before .before .args .q) _ (λ e. c .before .before .foreseen .ensures .1))
 
 search-at-worth-asking-requires : (t : ℕ) → search-at-lts.Need-worth-asking-requires (search-at-claims t) (search-at-at t) search-at.Post search-at-Inv-loop search-at-μ-loop
 search-at-worth-asking-requires t c κs = let w = c .before .before .before .before .pre .1 .0 in let l = there _ _ _ (w .is-next) .0 in (w .ready .code-ok .short, let h = w .ready .code-ok .short in omega arith)
@@ -486,7 +512,7 @@ search-at-told-requires : (t : ℕ) → search-at-lts.Need-told-requires (search
 search-at-told-requires t c κs = search needs
 
 search-at-returns-2 : (t : ℕ) → search-at-lts.Need-returns-2 (search-at-claims t) (search-at-at t) search-at.Post search-at-Inv-loop search-at-μ-loop
-search-at-returns-2 t c = blind-found _ _ _ _ _ (c .before .before .before .before .before .before .before .before .before .before .before .before .before .before .pre .1 .0 .is-next) (c .before .before .before .before .before .before .before .before .before .before .before .before .before .before .args .q) (c .before .before .before .before .before .before .before .before .before .before .before .before .before .before .pre .1 .1) _ _ _ _ (c .before .before .before .before .before .before .load .given .1) _ (c .before .before .before .before .unread .ensures) _ (c .before .before .before .search-runs .ensures) _ (c .before .before .told .ensures (c .before .if4 .taken))
+search-at-returns-2 t c = (blind-found _ _ _ _ _ (c .before .before .before .before .before .before .before .before .before .before .before .before .before .before .pre .1 .0 .is-next) (c .before .before .before .before .before .before .before .before .before .before .before .before .before .before .args .q) (c .before .before .before .before .before .before .before .before .before .before .before .before .before .before .pre .1 .1) _ _ _ _ (c .before .before .before .before .before .before .load .given .1) _ (c .before .before .before .before .unread .ensures) _ (c .before .before .before .search-runs .ensures .0) _ (c .before .before .told .ensures (c .before .if4 .taken)), shows-none (c .before .before .before .before .before .before .before .before .before .before .before .before .before .before .args .q) _ (λ e. c .before .before .told .ensures (c .before .if4 .taken) .as-before))
 
 search-at-earliest-requires : (t : ℕ) → search-at-lts.Need-earliest-requires (search-at-claims t) (search-at-at t) search-at.Post search-at-Inv-loop search-at-μ-loop
 search-at-earliest-requires t c κs = c .before .before .pre .1 .0 .ready .room
@@ -498,7 +524,8 @@ search-at-untried-requires : (t : ℕ) → search-at-lts.Need-untried-requires (
 search-at-untried-requires t c κs = search needs
 
 search-at-loop-holds : (t : ℕ) → search-at-lts.Need-loop-holds (search-at-claims t) (search-at-at t) search-at.Post search-at-Inv-loop search-at-μ-loop
-search-at-loop-holds t c = (missed-none _ _ _ _ _ _ _ _ (knows-none _ _ _ _ _ _ (c .before .before .before .before .before .pre .1 .1 .halting) _ _ (c .untried .ensures)) (c .before .before .earliest .ensures), (same, (covers-self _, c .before .before .earliest .ensures .within)))
+search-at-loop-holds t c =
+    (missed-none _ _ _ _ _ _ _ _ (knows-none _ _ _ _ _ _ (c .before .before .before .before .before .pre .1 .1 .halting) _ _ (c .untried .ensures)) (c .before .before .earliest .ensures), (same, (covers-self _, (c .before .before .earliest .ensures .within, λ e. ap (λ (p : Tried). p .met) (c .untried .ensures) ∙ filled-none (c .before .before .before .before .before .args .q) e _ (c .before .filled .ensures)))))
 
 search-at-hopeless-requires : (t : ℕ) → search-at-lts.Need-hopeless-requires (search-at-claims t) (search-at-at t) search-at.Post search-at-Inv-loop search-at-μ-loop
 search-at-hopeless-requires t c κs = let w = c .before .before .before .before .before .before .before .pre .1 .0 in (w .ready .code-ok .short, (w .ready .room, c .loop-test .taken))
@@ -513,7 +540,7 @@ search-at-so-far-requires : (t : ℕ) → search-at-lts.Need-so-far-requires (se
 search-at-so-far-requires t c κs = search needs
 
 search-at-returns-3 : (t : ℕ) → search-at-lts.Need-returns-3 (search-at-claims t) (search-at-at t) search-at.Post search-at-Inv-loop search-at-μ-loop
-search-at-returns-3 t c = rw (c .so-far .ensures) (reach-ended _ _ _ _ (c .before .before .before .before .before .before .before .before .before .before .before .before .before .args .q) _ (better-on (fills-meets _ _ _ _ (c .before .before .before .before .before .before .before .before .before .before .before .before .before .args .q) _ (c .before .before .before .before .before .before .before .before .before .before .before .before .before .pre .1 .0 .is-next) _ (c .before .before .before .before .before .before .before .before .before .filled .ensures)) (better-on (rw (c .before .before .before .before .before .before .before .before .untried .ensures) at (c .before .before .before .before .before .before .before .loop .inv .1 .0)) (tried-meets _ _ _ _ (c .before .before .before .before .before .before .before .before .before .before .before .before .before .args .q) _ (c .before .before .before .before .before .before .before .before .before .before .before .before .before .pre .1 .0 .is-next) _ (c .before .before .before .before .before .before .before .before .before .filled .ensures) _ (c .before .before .before .try-at .ensures .better)))) (c .before .before .ended .ensures (c .before .if6 .taken)))
+search-at-returns-3 t c = (rw (c .so-far .ensures) (found-over _ _ _ _ _ (better-on (fills-meets _ _ _ _ (c .before .before .before .before .before .before .before .before .before .before .before .before .before .args .q) _ (c .before .before .before .before .before .before .before .before .before .before .before .before .before .pre .1 .0 .is-next) _ (c .before .before .before .before .before .before .before .before .before .filled .ensures)) (better-on (rw (c .before .before .before .before .before .before .before .before .untried .ensures) at (c .before .before .before .before .before .before .before .loop .inv .1 .0)) (tried-meets _ _ _ _ (c .before .before .before .before .before .before .before .before .before .before .before .before .before .args .q) _ (c .before .before .before .before .before .before .before .before .before .before .before .before .before .pre .1 .0 .is-next) _ (c .before .before .before .before .before .before .before .before .before .filled .ensures) _ (c .before .before .before .try-at .ensures .0 .better)))) (c .before .before .ended .ensures .0 (c .before .if6 .taken))), rw (c .so-far .ensures) (shows-tried (c .before .before .before .before .before .before .before .before .before .before .before .before .before .pre .1 .0) (c .before .before .before .before .before .before .before .before .before .before .before .before .before .args .q) (c .before .before .before .before .before .before .before .before .before .before .before .before .before .pre .1 .1) _ _ (c .before .before .before .before .before .before .before .loop .inv .0) (c .before .before .before .before .before .before .before .loop .inv .1 .1 .1 .1) (c .before .before .before .try-at .result) (c .before .before .before .try-at .ensures .1)))
 
 search-at-following-requires : (t : ℕ) → search-at-lts.Need-following-requires (search-at-claims t) (search-at-at t) search-at.Post search-at-Inv-loop search-at-μ-loop
 search-at-following-requires t c κs = (c .before .before .before .before .before .before .before .before .before .pre .1 .0 .ready .room, c .before .before .loop-test .taken)
@@ -527,10 +554,14 @@ search-at-loop-again t c =
     let w = c .before .before .before .before .before .before .before .before .before .before .pre .1 .0 in
     let l = c .before .before .before .before .loop in
     let went : Went (a .c) (a .i) (a .m) (a .s) (a .x) (a .q) (l .r) (l .t) (c .before .if5 .r) = ⊎-elim
-    (λ z. subst (Went (a .c) (a .i) (a .m) (a .s) (a .x) (a .q) (l .r) (l .t)) (sym (z .4)) (z .1 .ensures))
+    (λ z. subst (Went (a .c) (a .i) (a .m) (a .s) (a .x) (a .q) (l .r) (l .t)) (sym (z .4)) (z .1 .ensures .0 .went (z .2 .ensures .1 (z .3 .left) .0) (z .2 .ensures .1 (z .3 .left) .1)))
     (λ z. subst (Went (a .c) (a .i) (a .m) (a .s) (a .x) (a .q) (l .r) (l .t)) (sym (z .1)) (went-hopeless _ _ _ _ _ _ _ _ (l .inv .0 .knows) w (c .before .before .hopeless .ensures (not-false _ (z .0 .left)))))
     (c .before .if5 .came) in
-    (missed-on _ _ _ _ _ _ _ _ _ _ _ (l .inv .0) went (c .following .ensures), (better-on (l .inv .1 .0) (tried-meets _ _ _ _ (a .q) _ (w .is-next) _ (c .before .before .before .before .before .before .filled .ensures) _ (went .better)), (covers-on (went .covers) (l .inv .1 .1 .0), c .following .ensures .within)))
+    let unmet : a .q ≡ certifying → (c .before .if5 .r) .met ≡ a .q .met = λ e. ⊎-elim
+    (λ z. ap (λ (p : Tried). p .met) (z .4) ∙ still-unmet (a .q) e _ _ (l .inv .1 .1 .1 .1 e) (z .1 .ensures .0 .better) (z .2 .ensures .1 (z .3 .left)))
+    (λ z. ap (λ (p : Tried). p .met) (z .1) ∙ l .inv .1 .1 .1 .1 e)
+    (c .before .if5 .came) in
+    (missed-on _ _ _ _ _ _ _ _ _ _ _ (l .inv .0) went (c .following .ensures), (better-on (l .inv .1 .0) (tried-meets _ _ _ _ (a .q) _ (w .is-next) _ (c .before .before .before .before .before .before .filled .ensures) _ (went .better)), (covers-on (went .covers) (l .inv .1 .1 .0), (c .following .ensures .within, unmet))))
 
 search-at-appends-requires : (t : ℕ) → search-at-lts.Need-appends-requires (search-at-claims t) (search-at-at t) search-at.Post search-at-Inv-loop search-at-μ-loop
 search-at-appends-requires t c κs = let w = c .before .before .before .before .before .before .before .pre .1 .0 in let h = w .ready .code-ok .short in let l = there _ _ _ (w .is-next) .0 in (h, omega arith)
@@ -545,7 +576,7 @@ search-at-ended-requires-2 : (t : ℕ) → search-at-lts.Need-ended-requires-2 (
 search-at-ended-requires-2 t c κs = search needs
 
 search-at-returns-4 : (t : ℕ) → search-at-lts.Need-returns-4 (search-at-claims t) (search-at-at t) search-at.Post search-at-Inv-loop search-at-μ-loop
-search-at-returns-4 t c = reach-ended _ _ _ _ (c .before .before .before .before .before .before .before .before .before .before .before .before .before .args .q) _ (better-on (fills-meets _ _ _ _ (c .before .before .before .before .before .before .before .before .before .before .before .before .before .args .q) _ (c .before .before .before .before .before .before .before .before .before .before .before .before .before .pre .1 .0 .is-next) _ (c .before .before .before .before .before .before .before .before .before .filled .ensures)) (better-on (rw (c .before .before .before .before .before .before .before .before .untried .ensures) at (c .before .before .before .before .before .before .before .loop .inv .1 .0)) (owns-meets _ _ _ _ (c .before .before .before .before .before .before .before .before .before .before .before .before .before .args .q) _ (c .before .before .before .before .before .before .before .before .before .before .before .before .before .pre .1 .0 .is-next) _ (c .before .before .before .before .before .before .before .before .before .filled .ensures) ((rw (c .before .before .before .before .after .ensures) at (c .before .before .before .own-reached .ensures .0)) .better)))) (c .before .ended2 .ensures (c .if7 .taken))
+search-at-returns-4 t c = (found-over _ _ _ _ _ (better-on (fills-meets _ _ _ _ (c .before .before .before .before .before .before .before .before .before .before .before .before .before .args .q) _ (c .before .before .before .before .before .before .before .before .before .before .before .before .before .pre .1 .0 .is-next) _ (c .before .before .before .before .before .before .before .before .before .filled .ensures)) (better-on (rw (c .before .before .before .before .before .before .before .before .untried .ensures) at (c .before .before .before .before .before .before .before .loop .inv .1 .0)) (owns-meets _ _ _ _ (c .before .before .before .before .before .before .before .before .before .before .before .before .before .args .q) _ (c .before .before .before .before .before .before .before .before .before .before .before .before .before .pre .1 .0 .is-next) _ (c .before .before .before .before .before .before .before .before .before .filled .ensures) ((rw (c .before .before .before .before .after .ensures) at (c .before .before .before .own-reached .ensures .0 .0)) .better)))) (c .before .ended2 .ensures .0 (c .if7 .taken)), shows-owned (c .before .before .before .before .before .before .before .before .before .before .before .before .before .pre .1 .0) (c .before .before .before .before .before .before .before .before .before .before .before .before .before .args .q) (c .before .before .before .before .before .before .before .before .before .before .before .before .before .pre .1 .1) _ _ (c .before .before .before .before .before .before .before .loop .inv .0) (c .before .before .before .before .before .before .before .loop .inv .1 .1 .1 .1) (c .before .before .before .before .before .before .loop-test .left) _ (c .before .before .before .before .after .ensures) (c .before .before .before .own-reached .result) (c .before .before .before .own-reached .ensures .1))
 
 search-at-after-requires-2 : (t : ℕ) → search-at-lts.Need-after-requires-2 (search-at-claims t) (search-at-at t) search-at.Post search-at-Inv-loop search-at-μ-loop
 search-at-after-requires-2 t c κs = search needs
@@ -557,7 +588,7 @@ search-at-and-requires : (t : ℕ) → search-at-lts.Need-and-requires (search-a
 search-at-and-requires t c κs = search needs
 
 search-at-returns-5 : (t : ℕ) → search-at-lts.Need-returns-5 (search-at-claims t) (search-at-at t) search-at.Post search-at-Inv-loop search-at-μ-loop
-search-at-returns-5 t c = reach-all _ _ _ _ (c .before .before .before .before .before .before .before .before .before .before .before .before .before .before .before .before .before .args .q) _ (c .before .before .before .before .before .before .before .before .before .before .before .before .before .before .before .before .before .pre .1 .0 .is-next) _ (c .before .before .before .before .before .before .before .before .before .before .before .before .before .filled .ensures) (c .before .before .before .before .before .before .before .before .before .before .before .before .before .before .before .before .before .pre .1 .1) (c .before .before .before .before .before .before .before .before .before .before .before .before .before .before .before .before .before .pre .1 .0 .ready .room) _ _ (rw (c .before .before .before .before .before .before .before .before .before .before .before .before .untried .ensures) at (c .before .before .before .before .before .before .before .before .before .before .before .loop .inv .1 .0)) (rw (c .before .before .before .before .before .before .before .before .before .before .before .before .untried .ensures) at (c .before .before .before .before .before .before .before .before .before .before .before .loop .inv .1 .1 .0)) (c .before .before .before .before .before .before .before .before .before .before .before .loop .inv .0) (c .before .before .before .before .before .before .before .before .before .before .loop-test .left) _ (rw (c .before .before .before .before .before .before .before .before .after .ensures) at (c .before .before .before .before .before .before .before .own-reached .ensures .0)) (c .before .before .before .before .before .before .before .own-reached .ensures .1) _ (c .before .before .after2 .ensures) _ (c .before .asks .ensures) _ (c .and .ensures)
+search-at-returns-5 t c = (reach-all _ _ _ _ (c .before .before .before .before .before .before .before .before .before .before .before .before .before .before .before .before .before .args .q) _ (c .before .before .before .before .before .before .before .before .before .before .before .before .before .before .before .before .before .pre .1 .0 .is-next) _ (c .before .before .before .before .before .before .before .before .before .before .before .before .before .filled .ensures) (c .before .before .before .before .before .before .before .before .before .before .before .before .before .before .before .before .before .pre .1 .1) (c .before .before .before .before .before .before .before .before .before .before .before .before .before .before .before .before .before .pre .1 .0 .ready .room) _ _ (rw (c .before .before .before .before .before .before .before .before .before .before .before .before .untried .ensures) at (c .before .before .before .before .before .before .before .before .before .before .before .loop .inv .1 .0)) (rw (c .before .before .before .before .before .before .before .before .before .before .before .before .untried .ensures) at (c .before .before .before .before .before .before .before .before .before .before .before .loop .inv .1 .1 .0)) (c .before .before .before .before .before .before .before .before .before .before .before .loop .inv .0) (c .before .before .before .before .before .before .before .before .before .before .loop-test .left) _ (rw (c .before .before .before .before .before .before .before .before .after .ensures) at (c .before .before .before .before .before .before .before .own-reached .ensures .0 .0)) ((rw (c .before .before .before .before .before .before .before .before .after .ensures) at (c .before .before .before .before .before .before .before .own-reached .ensures .0)) .1 (c .before .before .before .before .before .ended2 .ensures .1 (c .before .before .before .before .if7 .left) .0) (c .before .before .before .before .before .ended2 .ensures .1 (c .before .before .before .before .if7 .left) .1)) _ (c .before .before .after2 .ensures) _ (c .before .asks .ensures) _ (c .and .ensures), shows-none (c .before .before .before .before .before .before .before .before .before .before .before .before .before .before .before .before .before .args .q) _ (λ e. still-unmet (c .before .before .before .before .before .before .before .before .before .before .before .before .before .before .before .before .before .args .q) e _ _ ((c .before .before .before .before .before .before .before .before .before .before .before .loop .inv .1 .1 .1 .1) e) ((rw (c .before .before .before .before .before .before .before .before .after .ensures) at (c .before .before .before .before .before .before .before .own-reached .ensures .0 .0)) .better) (c .before .before .before .before .before .ended2 .ensures .1 (c .before .before .before .before .if7 .left))))
 
 search-runs-kept-requires : (t : ℕ) → search-runs-lts.Need-kept-requires (search-runs-claims t) (search-runs-at t) search-runs.Post
 search-runs-kept-requires t c κs = search needs
@@ -566,10 +597,10 @@ search-runs-emptied-requires : (t : ℕ) → search-runs-lts.Need-emptied-requir
 search-runs-emptied-requires t c κs = search needs
 
 search-runs-returns : (t : ℕ) → search-runs-lts.Need-returns (search-runs-claims t) (search-runs-at t) search-runs.Post
-search-runs-returns t c = straight-kept _ _ _ _ _ here (c .before .before .before .args .q) (c .before .before .kept .ensures .0 (c .before .if1 .taken)) _ (c .emptied .ensures) _
+search-runs-returns t c = (straight-kept _ _ _ _ _ here (c .before .before .before .args .q) (c .before .before .kept .ensures .0 (c .before .if1 .taken)) _ (c .emptied .ensures) _, shows-stop (c .emptied .result) (c .before .before .kept .ensures .0 (c .before .if1 .taken) .1) (record { count = refl; steps = tt }))
 
 search-runs-returns-2 : (t : ℕ) → search-runs-lts.Need-returns-2 (search-runs-claims t) (search-runs-at t) search-runs.Post
-search-runs-returns-2 t c = reach-end _ _ _ _ (c .before .before .before .before .before .before .args .q) (c .before .before .before .before .before .kept .ensures .1 (c .before .before .before .before .if1 .left)) (c .before .if2 .taken) _
+search-runs-returns-2 t c = (reach-end _ _ _ _ (c .before .before .before .before .before .before .args .q) (c .before .before .before .before .before .kept .ensures .1 (c .before .before .before .before .if1 .left)) (c .before .if2 .taken) _, shows-none (c .before .before .before .before .before .before .args .q) _ (λ e. refl))
 
 search-runs-halts-requires : (t : ℕ) → search-runs-lts.Need-halts-requires (search-runs-claims t) (search-runs-at t) search-runs.Post
 search-runs-halts-requires t c κs = (c .before .before .before .before .before .pre .1 .code-ok .short, c .if2 .left)
@@ -584,13 +615,13 @@ search-runs-returns-3 : (t : ℕ) → search-runs-lts.Need-returns-3 (search-run
 search-runs-returns-3 t c = c .search-at .ensures
 
 search-runs-both-ways-requires : (t : ℕ) → search-runs-lts.Need-both-ways-requires (search-runs-claims t) (search-runs-at t) search-runs.Post
-search-runs-both-ways-requires t c κs = (omega (arith, c .before .before .before .before .before .before .before .before .before .pre .0), (c .before .before .before .before .before .before .before .before .before .pre .1, (c .before .before .before .before .if2 .left, c .before .before .before .halts .ensures _ refl .1 (c .before .before .if3 .left))))
+search-runs-both-ways-requires t c κs = (omega (arith, c .before .before .before .before .before .before .before .before .before .pre .0), ((c .before .before .before .before .before .before .before .before .before .pre .1, (c .before .before .before .before .if2 .left, c .before .before .before .halts .ensures _ refl .1 (c .before .before .if3 .left))), c .before .before .before .before .before .before .before .before .kept .ensures .1 (c .before .before .before .before .before .before .before .if1 .left)))
 
 search-runs-returns-4 : (t : ℕ) → search-runs-lts.Need-returns-4 (search-runs-claims t) (search-runs-at t) search-runs.Post
 search-runs-returns-4 t c = c .both-ways .ensures
 
 search-runs-walk-on-requires : (t : ℕ) → search-runs-lts.Need-walk-on-requires (search-runs-claims t) (search-runs-at t) search-runs.Post
-search-runs-walk-on-requires t c κs = (omega (arith, c .before .before .before .before .before .before .before .before .before .pre .0), (c .before .before .before .before .before .before .before .before .before .pre .1, (c .before .before .before .before .if2 .left, c .before .before .before .halts .ensures _ refl .1 (c .before .before .if3 .left))))
+search-runs-walk-on-requires t c κs = (omega (arith, c .before .before .before .before .before .before .before .before .before .pre .0), ((c .before .before .before .before .before .before .before .before .before .pre .1, (c .before .before .before .before .if2 .left, c .before .before .before .halts .ensures _ refl .1 (c .before .before .if3 .left))), c .before .before .before .before .before .before .before .before .kept .ensures .1 (c .before .before .before .before .before .before .before .if1 .left)))
 
 search-runs-returns-5 : (t : ℕ) → search-runs-lts.Need-returns-5 (search-runs-claims t) (search-runs-at t) search-runs.Post
 search-runs-returns-5 t c = c .walk-on .ensures
@@ -605,7 +636,15 @@ try-at-enum-told-2 : (t : ℕ) → try-at-lts.Need-enum-told-2 (try-at-claims t)
 try-at-enum-told-2 t c = search needs
 
 try-at-returns : (t : ℕ) → try-at-lts.Need-returns (try-at-claims t) (try-at-at t) try-at.Post
-try-at-returns t c = went-refused _ _ _ _ _ _ _ _ (c .before .before .before .pre .1 .1 .1) _ (c .before .before .execute .ensures) _ (c .enum-told2 .given .1)
+try-at-returns t c =
+    let went = went-refused _ _ _ _ _ _ _ _ (c .before .before .before .pre .1 .1 .1) _ (c .before .before .execute .ensures) _ (c .enum-told2 .given .1) in
+    (record { better = same; went = λ n u. went }, shows-missed (c .before .before .before .pre .1 .0) (c .before .before .before .args .q) _ _ (c .before .before .before .args .p) (λ e unmet. unmet))
+
+try-at-returns-2 : (t : ℕ) → try-at-lts.Need-returns-2 (try-at-claims t) (try-at-at t) try-at.Post
+try-at-returns-2 t c = rw (c .having .ensures) (
+  record { better = (emptied-better _ _ (rw (c .before .before .before .before .before .before .before .after .ensures) at (c .before .before .before .before .emptied .ensures)) (_, (ruled-done _ _ _ (c .before .before .before .before .before .before .before .before .before .before .execute .ensures) (c .before .before .before .before .before .before .before .before .enum-told .given .1)), done (inl (c .before .before .before .before .before .before .kept .ensures .0 (c .before .before .before .before .before .if1 .taken) .0, refl, c .before .before .before .before .before .before .kept .ensures .0 (c .before .before .before .before .before .if1 .taken) .1)))); went = λ n u. absurd (c .before .before .before .ended .ensures .0 (c .before .before .if2 .taken) n u) },
+  shows-emptied (c .before .before .before .before .before .before .before .before .before .before .before .pre .1 .0) (c .before .before .before .before .before .before .before .before .before .before .before .args .q) _ _ (record { met = c .before .before .before .before .emptied .result; tries = c .before .before .before .before .before .before .before .before .before .before .before .args .p .tries; cares = c .before .preceded .result; counted = c .before .before .before .before .before .before .before .before .before .before .before .args .p .counted; apart = c .before .before .before .before .before .before .before .before .before .before .before .args .p .apart }) _ (ruled-done _ _ _ (c .before .before .before .before .before .before .before .before .before .before .execute .ensures) (c .before .before .before .before .before .before .before .before .enum-told .given .1)) _ (c .before .preceded .ensures) (c .before .before .before .before .before .before .kept .ensures .0 (c .before .before .before .before .before .if1 .taken) .1) (record { count = refl; steps = tt }),
+)
 
 try-at-after-requires : (t : ℕ) → try-at-lts.Need-after-requires (try-at-claims t) (try-at-at t) try-at.Post
 try-at-after-requires t c κs = search needs
@@ -616,8 +655,37 @@ try-at-kept-requires t c κs = search needs
 try-at-emptied-requires : (t : ℕ) → try-at-lts.Need-emptied-requires (try-at-claims t) (try-at-at t) try-at.Post
 try-at-emptied-requires t c κs = search needs
 
-try-at-returns-2 : (t : ℕ) → try-at-lts.Need-returns-2 (try-at-claims t) (try-at-at t) try-at.Post
-try-at-returns-2 t c = went-found _ _ _ _ _ _ _ _ (c .before .before .before .before .before .before .before .before .before .pre .1 .1 .1) _ (ruled-done _ _ _ (c .before .before .before .before .before .before .before .before .execute .ensures) (c .before .before .before .before .before .before .enum-told .given .1)) (c .before .before .before .before .kept .ensures .0 (c .before .before .before .if1 .taken)) _ (rw (c .before .before .before .before .before .after .ensures) at (c .emptied .ensures))
+try-at-having-requires-3 : (t : ℕ) → try-at-lts.Need-having-requires-3 (try-at-claims t) (try-at-at t) try-at.Post
+try-at-having-requires-3 t c κs = search needs
+
+try-at-preceded-requires-2 : (t : ℕ) → try-at-lts.Need-preceded-requires-2 (try-at-claims t) (try-at-at t) try-at.Post
+try-at-preceded-requires-2 t c κs = let h = c .before .before .before .before .before .before .before .before .before .before .before .before .pre .1 .1 .0 in (lit< tt, omega arith)
+
+try-at-ended-requires-2 : (t : ℕ) → try-at-lts.Need-ended-requires-2 (try-at-claims t) (try-at-at t) try-at.Post
+try-at-ended-requires-2 t c κs = search needs
+
+try-at-having-requires-2 : (t : ℕ) → try-at-lts.Need-having-requires-2 (try-at-claims t) (try-at-at t) try-at.Post
+try-at-having-requires-2 t c κs = search needs
+
+try-at-having-requires : (t : ℕ) → try-at-lts.Need-having-requires (try-at-claims t) (try-at-at t) try-at.Post
+try-at-having-requires t c κs = search needs
+
+try-at-preceded-requires : (t : ℕ) → try-at-lts.Need-preceded-requires (try-at-claims t) (try-at-at t) try-at.Post
+try-at-preceded-requires t c κs = let h = c .before .before .before .before .before .before .before .before .before .pre .1 .1 .0 in (lit< tt, omega arith)
+
+try-at-ended-requires : (t : ℕ) → try-at-lts.Need-ended-requires (try-at-claims t) (try-at-at t) try-at.Post
+try-at-ended-requires t c κs = search needs
+
+try-at-returns-3 : (t : ℕ) → try-at-lts.Need-returns-3 (try-at-claims t) (try-at-at t) try-at.Post
+try-at-returns-3 t c =
+    let went = went-found _ _ _ _ _ _ _ _ (c .before .before .before .before .before .before .before .before .before .before .pre .1 .1 .1) _ (ruled-done _ _ _ (c .before .before .before .before .before .before .before .before .before .execute .ensures) (c .before .before .before .before .before .before .before .enum-told .given .1)) (c .before .before .before .before .before .kept .ensures .0 (c .before .before .before .before .if1 .taken)) _ (rw (c .before .before .before .before .before .before .after .ensures) at (c .before .before .before .emptied .ensures)) in
+    rw (c .having2 .ensures) (record { better = went .better; went = λ n u. went }, shows-missed (c .before .before .before .before .before .before .before .before .before .before .pre .1 .0) (c .before .before .before .before .before .before .before .before .before .before .args .q) _ _ (record { met = c .before .before .before .emptied .result; tries = c .before .before .before .before .before .before .before .before .before .before .args .p .tries; cares = c .before .before .before .before .before .before .before .before .before .before .args .p .cares; counted = c .before .before .before .before .before .before .before .before .before .before .args .p .counted; apart = c .before .before .before .before .before .before .before .before .before .before .args .p .apart }) (λ e unmet. still-unmet (c .before .before .before .before .before .before .before .before .before .before .args .q) e _ _ unmet (went .better) (c .before .before .ended .ensures .1 (c .before .if2 .left))))
+
+try-at-returns-4 : (t : ℕ) → try-at-lts.Need-returns-4 (try-at-claims t) (try-at-at t) try-at.Post
+try-at-returns-4 t c = rw (c .having3 .ensures) (
+  record { better = resumed-better _ _ _ _ _ _ _ _ (c .before .before .before .before .before .before .before .before .before .before .before .before .before .before .pre .1 .1 .1) _ (ruled-done _ _ _ (c .before .before .before .before .before .before .before .before .before .before .before .before .before .execute .ensures) (c .before .before .before .before .before .before .before .before .before .before .before .enum-told .given .1)) _ (c .before .before .before .before .before .before .before .idle .ensures) _ (c .before .before .before .before .before .before .resumed .ensures) (rw (c .before .before .before .before .before .before .before .before .before .before .after .ensures) at (c .before .before .before .before .before .search-runs .ensures .0) .better); went = λ n u. absurd (c .before .before .before .ended2 .ensures .0 (c .before .before .if3 .taken) n u) },
+  shows-resumed (c .before .before .before .before .before .before .before .before .before .before .before .before .before .before .pre .1 .0) (c .before .before .before .before .before .before .before .before .before .before .before .before .before .before .args .q) _ _ (record { met = c .before .before .before .before .before .search-runs .result .met; tries = c .before .before .before .before .before .before .before .before .before .before .before .before .before .before .args .p .tries; cares = c .before .preceded2 .result; counted = c .before .before .before .before .before .before .before .before .before .before .before .before .before .before .args .p .counted; apart = c .before .before .before .before .before .before .before .before .before .before .before .before .before .before .args .p .apart }) _ (ruled-done _ _ _ (c .before .before .before .before .before .before .before .before .before .before .before .before .before .execute .ensures) (c .before .before .before .before .before .before .before .before .before .before .before .enum-told .given .1)) _ (c .before .preceded2 .ensures) _ (c .before .before .before .before .before .before .before .idle .ensures) _ (c .before .before .before .before .before .before .resumed .ensures) _ (c .before .before .before .before .before .before .before .before .before .before .after .ensures) (c .before .before .before .before .before .search-runs .ensures .1),
+)
 
 try-at-idle-requires : (t : ℕ) → try-at-lts.Need-idle-requires (try-at-claims t) (try-at-at t) try-at.Post
 try-at-idle-requires t c κs = c .before .before .before .before .before .before .pre .1 .0 .ready .room
@@ -635,33 +703,40 @@ try-at-search-runs-requires t c κs =
     (omega (arith, c .before .before .before .before .before .before .before .before .pre .0), ready-as (ready-after (w .ready) (effect _ _ _ _ _ d)) (like .1))
 
 try-at-noted-requires : (t : ℕ) → try-at-lts.Need-noted-requires (try-at-claims t) (try-at-at t) try-at.Post
-try-at-noted-requires t c κs = c .before .before .before .before .before .before .before .before .before .pre .1 .1 .0
+try-at-noted-requires t c κs = c .before .before .before .before .before .before .before .before .before .before .before .before .pre .1 .1 .0
 
-try-at-returns-3 : (t : ℕ) → try-at-lts.Need-returns-3 (try-at-claims t) (try-at-at t) try-at.Post
-try-at-returns-3 t c = went-resumed _ _ _ _ _ _ _ _ (c .before .before .before .before .before .before .before .before .before .before .pre .1 .1 .1) _ (ruled-done _ _ _ (c .before .before .before .before .before .before .before .before .before .execute .ensures) (c .before .before .before .before .before .before .before .enum-told .given .1)) _ (c .before .before .before .idle .ensures) _ (c .before .before .resumed .ensures) _ (rw (c .before .before .before .before .before .before .after .ensures) at (c .before .search-runs .ensures)) _ (c .noted .ensures)
+try-at-returns-5 : (t : ℕ) → try-at-lts.Need-returns-5 (try-at-claims t) (try-at-at t) try-at.Post
+try-at-returns-5 t c =
+    let went = went-resumed _ _ _ _ _ _ _ _ (c .before .before .before .before .before .before .before .before .before .before .before .before .before .pre .1 .1 .1) _ (ruled-done _ _ _ (c .before .before .before .before .before .before .before .before .before .before .before .before .execute .ensures) (c .before .before .before .before .before .before .before .before .before .before .enum-told .given .1)) _ (c .before .before .before .before .before .before .idle .ensures) _ (c .before .before .before .before .before .resumed .ensures) _ (rw (c .before .before .before .before .before .before .before .before .before .after .ensures) at (c .before .before .before .before .search-runs .ensures .0)) _ (c .noted .ensures) in
+    (record { better = went .better; went = λ n u. went }, shows-missed (c .before .before .before .before .before .before .before .before .before .before .before .before .before .pre .1 .0) (c .before .before .before .before .before .before .before .before .before .before .before .before .before .args .q) _ _ (c .noted .result) (λ e unmet. noted-met _ _ (c .before .before .before .before .before .before .before .before .before .before .before .before .before .pre .1 .1 .1 .halting) (c .noted .ensures) ∙ still-unmet (c .before .before .before .before .before .before .before .before .before .before .before .before .before .args .q) e _ _ unmet ((rw (c .before .before .before .before .before .before .before .before .before .after .ensures) at (c .before .before .before .before .search-runs .ensures .0)) .better) (c .before .before .ended2 .ensures .1 (c .before .if3 .left))))
 
 walk-on-straight-requires : (t : ℕ) → walk-on-lts.Need-straight-requires (walk-on-claims t) (walk-on-at t) walk-on.Post
-walk-on-straight-requires t c κs = c .pre .1 .0 .code-ok
+walk-on-straight-requires t c κs = c .pre .1 .0 .0 .code-ok
 
 walk-on-search-runs-requires : (t : ℕ) → walk-on-lts.Need-search-runs-requires (walk-on-claims t) (walk-on-at t) walk-on.Post
 walk-on-search-runs-requires t c κs =
     let w = c .straight .ensures in
-    let l = ended-further (w .0) (w .1 .0) (c .before .pre .1 .1 .1) in
-    let low = c .before .pre .1 .1 .0 in
-    let short = c .before .pre .1 .0 .code-ok .short in
-    (omega (arith, c .before .pre .0), leads-ready (walked-leads (w .1 .0)) (c .before .pre .1 .0))
+    let l = ended-further (w .0) (w .1 .0) (c .before .pre .1 .0 .1 .1) in
+    let low = c .before .pre .1 .0 .1 .0 in
+    let short = c .before .pre .1 .0 .0 .code-ok .short in
+    (omega (arith, c .before .pre .0), leads-ready (walked-leads (w .1 .0)) (c .before .pre .1 .0 .0))
 
 walk-on-ended-requires : (t : ℕ) → walk-on-lts.Need-ended-requires (walk-on-claims t) (walk-on-at t) walk-on.Post
 walk-on-ended-requires t c κs = search needs
 
+walk-on-passed-requires : (t : ℕ) → walk-on-lts.Need-passed-requires (walk-on-claims t) (walk-on-at t) walk-on.Post
+walk-on-passed-requires t c κs = search needs
+
 walk-on-returns : (t : ℕ) → walk-on-lts.Need-returns (walk-on-claims t) (walk-on-at t) walk-on.Post
-walk-on-returns t c = straight-ended _ _ _ _ _ (walked-leads (c .before .before .before .before .straight .ensures .1 .0)) (c .before .before .before .before .before .args .q) _ (c .before .before .before .search-runs .ensures) (c .before .ended .ensures (c .if1 .taken))
+walk-on-returns t c =
+    let w = c .before .before .before .before .before .before .straight .ensures .1 .0 in
+    (found-over _ _ _ _ _ (straight-better _ _ _ _ _ (walked-leads w) (c .before .before .before .before .before .before .before .args .q) (c .before .before .before .before .before .search-runs .ensures .0 .better)) (c .before .before .ended .ensures .0 (c .before .if1 .taken)), shows-walked (c .before .before .before .before .before .before .before .pre .1 .0 .0 .code-ok .short) (c .before .before .before .before .before .before .before .pre .1 .1) w (c .before .before .before .before .before .search-runs .result) (c .before .before .before .before .before .search-runs .ensures .1) _ (c .passed .ensures))
 
 walk-on-before-straight-requires : (t : ℕ) → walk-on-lts.Need-before-straight-requires (walk-on-claims t) (walk-on-at t) walk-on.Post
 walk-on-before-straight-requires t c κs = c .before .before .before .before .before .straight .ensures .1 .1
 
 walk-on-returns-2 : (t : ℕ) → walk-on-lts.Need-returns-2 (walk-on-claims t) (walk-on-at t) walk-on.Post
-walk-on-returns-2 t c = straight-found _ _ _ _ _ (walked-leads (c .before .before .before .before .before .before .straight .ensures .1 .0)) (c .before .before .before .before .before .before .before .args .q) _ (c .before .before .before .before .before .search-runs .ensures) _ (λ s'. c .before-straight .ensures _ _ _ s' (c .before .before .before .before .before .before .straight .ensures .1 .0))
+walk-on-returns-2 t c = (straight-found _ _ _ _ _ (walked-leads (c .before .before .before .before .before .before .straight .ensures .1 .0)) (c .before .before .before .before .before .before .before .args .q) _ (c .before .before .before .before .before .search-runs .ensures .0) _ (λ s'. c .before-straight .ensures _ _ _ s' (c .before .before .before .before .before .before .straight .ensures .1 .0)), shows-none (c .before .before .before .before .before .before .before .args .q) _ (λ e. still-unmet (c .before .before .before .before .before .before .before .args .q) e _ _ refl (c .before .before .before .before .before .search-runs .ensures .0 .better) (c .before .before .ended .ensures .1 (c .before .if1 .left))))
 
 pub +both-ways+filled+keeps+own-reached+search-at+search-runs+try-at+walk-on-spec : {M : Type 1} → statement M
 +both-ways+filled+keeps+own-reached+search-at+search-runs+try-at+walk-on-spec =
@@ -670,6 +745,7 @@ pub +both-ways+filled+keeps+own-reached+search-at+search-runs+try-at+walk-on-spe
     (both-ways-straight-requires t)
     (both-ways-search-runs-requires t)
     (both-ways-ended-requires t)
+    (both-ways-passed-requires t)
     (both-ways-returns t)
     (both-ways-of-register-requires t)
     (both-ways-at-position-requires t)
@@ -730,6 +806,10 @@ pub +both-ways+filled+keeps+own-reached+search-at+search-runs+try-at+walk-on-spe
     (own-reached-own-message-requires t)
     (own-reached-append-requires t)
     (own-reached-search-runs-requires t)
+    (own-reached-ended-requires t)
+    (own-reached-add-preceded t)
+    (own-reached-preceded-requires t)
+    (own-reached-returns-3 t)
     (own-reached-loads-ahead-requires t)
     (own-reached-own-asks-requires-2 t)
     (own-reached-and-requires t)
@@ -737,11 +817,11 @@ pub +both-ways+filled+keeps+own-reached+search-at+search-runs+try-at+walk-on-spe
     (own-reached-enum-told-4 t)
     (own-reached-enum-told-5 t)
     (own-reached-enum-told-6 t)
-    (own-reached-returns-3 t)
     (own-reached-returns-4 t)
     (own-reached-returns-5 t)
     (own-reached-returns-6 t)
-    (own-reached-returns-7 t))
+    (own-reached-returns-7 t)
+    (own-reached-returns-8 t))
     (λ t. search-at-lts.spec (search-at-claims t) (search-at-at t)
     search-at.Post
     search-at-Inv-loop
@@ -799,17 +879,27 @@ pub +both-ways+filled+keeps+own-reached+search-at+search-runs+try-at+walk-on-spe
     (try-at-after-requires t)
     (try-at-kept-requires t)
     (try-at-emptied-requires t)
+    (try-at-ended-requires t)
+    (try-at-preceded-requires t)
+    (try-at-having-requires t)
     (try-at-returns-2 t)
+    (try-at-having-requires-2 t)
+    (try-at-returns-3 t)
     (try-at-idle-requires t)
     (try-at-resumed-requires t)
     (try-at-search-runs-requires t)
+    (try-at-ended-requires-2 t)
+    (try-at-preceded-requires-2 t)
+    (try-at-having-requires-3 t)
+    (try-at-returns-4 t)
     (try-at-noted-requires t)
-    (try-at-returns-3 t))
+    (try-at-returns-5 t))
     λ t. walk-on-lts.spec (walk-on-claims t) (walk-on-at t)
     walk-on.Post
     (walk-on-straight-requires t)
     (walk-on-search-runs-requires t)
     (walk-on-ended-requires t)
+    (walk-on-passed-requires t)
     (walk-on-returns t)
     (walk-on-before-straight-requires t)
     (walk-on-returns-2 t)
