@@ -62,8 +62,9 @@ impl Machine {
         }
     }
 
-    /// Whether the thread, alone, can keep all its promises: the first run by which it does, or None. Times
-    /// ascend, and a store's own message comes last; the run ends where the first time no promise is left.
+    /// The first run by which the thread, alone, keeps all its promises; None where it cannot. Where runs part,
+    /// the one with the earlier time comes first, and a store's own message last; a run ends as soon as no
+    /// promise is left.
     pub fn certify(&self, program: &Program, thread: u8) -> Result<Option<Vec<RunStep>>, Why> {
         let mut answer = [0; 36];
         served(calls::certify(program.as_bytes(), &self.0, thread, &mut answer));
