@@ -28,8 +28,9 @@ fn main() -> Result<(), Box<dyn Error>> {
     let program = Program::read(&file)?;
     let mut machine = Machine::fresh();
     for line in stdin().lines() {
-        if let Some(step) = step(&line?)? {
-            machine = machine.step(&program, step)?;
+        let line = line?;
+        if let Some(step) = step(&line)? {
+            machine = machine.step(&program, step).map_err(|why| format!("{line}: {why}"))?;
         }
     }
     match machine.certify(&program, thread)? {
