@@ -16,7 +16,8 @@
  * are the low 32 bits of the number. Calls keep nothing between them, and may run at the same time on different areas.
  *
  * Stack, by the frames of the code for x86-64: blyskota_read 6 KiB, blyskota_certify 30 KiB, blyskota_step 32 KiB, blyskota_replay 33 KiB,
- * blyskota_search 152 KiB, blyskota_search_within 152 KiB. No proof speaks of it: lend each call as much, and some for what calls it.
+ * blyskota_search 152 KiB, blyskota_search_within 152 KiB, blyskota_outcomes 152 KiB, blyskota_outcomes_within 152 KiB. No proof speaks
+ * of it: lend each call as much, and some for what calls it.
  *
  * README.md says byte by byte what a program file and a trace file are.
  */
@@ -35,11 +36,12 @@ extern "C" {
 #define BLYSKOTA_SHORT_AREA 1
 #define BLYSKOTA_WRONG_LENGTH 2
 
-/* The verdicts of a search. */
+/* The verdicts of a search; those of a listing of outcomes are refused, finished and not finished. */
 #define BLYSKOTA_REFUSED 0
 #define BLYSKOTA_ALLOWED 1
 #define BLYSKOTA_FORBIDDEN 2
 #define BLYSKOTA_NOT_FINISHED 3
+#define BLYSKOTA_FINISHED 1
 
 /* The kinds of a step. */
 #define BLYSKOTA_EXECUTE 0
@@ -73,6 +75,9 @@ extern "C" {
 /* That of a search, after those of its program file. */
 #define BLYSKOTA_REFUSED_TRACE_AREA 30  /* the lent trace area is shorter than 480 bytes */
 
+/* That of a listing of outcomes, after those of its program file and where the budget is enough. */
+#define BLYSKOTA_REFUSED_OUTCOMES 40  /* there are more outcomes than the lent table has entries */
+
 /*
  * A program value, 487 bytes: version, threads, 4 x (instruction count, 16 x 7 bytes op m r k1 n1 k2 n2), condition count,
  * 8 x (kind, thread, index, value). Entries that are not used are 0.
@@ -93,9 +98,19 @@ extern "C" {
 #define BLYSKOTA_REPLAY_ANSWER 357
 #define BLYSKOTA_SEARCH_ANSWER 12
 #define BLYSKOTA_SEARCH_WITHIN_ANSWER 16
+#define BLYSKOTA_OUTCOMES_ANSWER 16
+#define BLYSKOTA_OUTCOMES_WITHIN_ANSWER 24
 
 /* The least trace area for a search: 6 bytes for each of the 80 steps that a trace has at most. */
 #define BLYSKOTA_TRACE 480
+
+/*
+ * An outcome, 48 bytes: 4 x 8 registers, all 0 of a thread that is not there, then the last values of 16 locations. An entry of a table
+ * of outcomes is an outcome and the place of the first sequence that ends with it, the empty one being 1: u32, or u64 where the budget is.
+ */
+#define BLYSKOTA_OUTCOME 48
+#define BLYSKOTA_OUTCOMES_ENTRY 52
+#define BLYSKOTA_OUTCOMES_WITHIN_ENTRY 56
 
 /* The kinds of a step of a certifying run. */
 #define BLYSKOTA_EXECUTED 0
@@ -150,6 +165,27 @@ uint32_t blyskota_search(const uint8_t *file, size_t file_len, uint32_t budget, 
  */
 uint32_t blyskota_search_within(const uint8_t *file, size_t file_len, uint64_t budget, uint8_t *area, size_t area_len, uint8_t *table,
                                 size_t table_len, uint8_t *answer, size_t answer_len);
+
+/*
+ * Lists every outcome that some complete sequence of a program file ends with, each once and in ascending order, byte by byte, if there
+ * are at most budget accepted sequences. The lent table has entries of 52 bytes: the outcomes, each with its place u32, and behind the
+ * last one 0. Answer, 16 bytes: verdict (BLYSKOTA_FINISHED, BLYSKOTA_NOT_FINISHED or BLYSKOTA_REFUSED), refusal (0 none), 2 zero bytes,
+ * place u32 (of the refusal of a file, else 0), count u32 (the number of all sequences; the budget where not finished; 0 where the file is
+ * refused), number of outcomes u32 (0 unless finished). Where there are more outcomes than entries, the listing is refused with 40, and
+ * the count is that of all sequences. After that, and where it is not finished, all entries are 0; where the file is refused or 1 is
+ * returned, the table is as it was. Bytes at its end that make no whole entry stay in any case.
+ */
+uint32_t blyskota_outcomes(const uint8_t *file, size_t file_len, uint32_t budget, uint8_t *table, size_t table_len, uint8_t *answer,
+                           size_t answer_len);
+
+/*
+ * The same listing with a budget, a count and places of 64 bits: entries of 56 bytes, the outcome and its place u64, in the memory that is
+ * lent as outcomes. The table is that of a search with one: any length and content, it changes no answer, and it is all 0 afterwards, also
+ * after 40, unless the file is refused or 1 is returned. Answer, 24 bytes: verdict, refusal, 2 zero bytes, place u32 as above, number of
+ * outcomes u32, 4 zero bytes, count u64.
+ */
+uint32_t blyskota_outcomes_within(const uint8_t *file, size_t file_len, uint64_t budget, uint8_t *outcomes, size_t outcomes_len,
+                                  uint8_t *table, size_t table_len, uint8_t *answer, size_t answer_len);
 
 #ifdef __cplusplus
 }

@@ -23,4 +23,5 @@ MEANINGS = {
     28: "a view that the store has to come after is not below its time",
     29: "alone, the thread could not keep its promises after the step",
     30: "the lent trace area is shorter than 480 bytes",
+    40: "there are more outcomes than the lent table has entries",
 }

@@ -33,15 +33,62 @@ class Opinions(CommandTest):
         self.holds((OK, "equal: allowed\nunequal: forbidden\n", ""), AXIOMATIC, "equal.litmus", "unequal.litmus")
 
     def test_usage(self):
-        for words in ([], ["--all"], ["-"]):
+        usage = "axiomatic: usage: programs/axiomatic [--outcomes] LISTING ..; --help says more\n"
+        for words in ([], ["--all"], ["-"], ["--outcomes"], ["--outcomes", "-"], ["new.litmus", "--outcomes"]):
             with self.subTest(words):
-                self.holds((NOT_DONE, "", "axiomatic: usage: programs/axiomatic LISTING ..; --help says more\n"),
-                           AXIOMATIC, *words)
+                self.holds((NOT_DONE, "", usage), AXIOMATIC, *words)
 
     def test_help(self):
         status, out, err = self.run_command(AXIOMATIC, "--help")
         self.assertEqual((status, err), (OK, ""))
         self.assertIn(b"programs/axiomatic LISTING ..", out)
+
+
+def outcome(registers, locations):
+    """The line of an outcome, of which this is given: registers by (thread, number), locations by number."""
+    ending = bytearray(48)
+    for (thread, number), value in registers.items():
+        ending[8 * thread + number] = value
+    for location, value in locations.items():
+        ending[32 + location] = value
+    return ending.hex() + "\n"
+
+
+class Outcomes(CommandTest):
+    def test_of_one_thread(self):
+        self.file("new.litmus", FORBIDDEN)
+        self.holds((OK, "new: 1 outcomes\n" + outcome({}, {0: 1}), ""), AXIOMATIC, "--outcomes", "new.litmus")
+
+    def test_of_no_instructions(self):
+        self.file("none.litmus", "thread\nquestion\n")
+        self.holds((OK, "none: 1 outcomes\n" + outcome({}, {}), ""), AXIOMATIC, "--outcomes", "none.litmus")
+
+    def test_smallest_first_and_each_once(self):
+        text = "thread\n    r7 = load [w]\nthread\n    store [w], {}\nthread\n    store [w], {}\nquestion\n    0:r7 = 9\n"
+        self.file("two.litmus", text.format(2, 1))
+        self.file("same.litmus", text.format(1, 1))
+        two = [outcome({(0, 7): read}, {3: last}) for read in (0, 1, 2) for last in (1, 2)]
+        same = [outcome({(0, 7): read}, {3: 1}) for read in (0, 1)]
+        said = "two: 6 outcomes\n" + "".join(two) + "same: 2 outcomes\n" + "".join(same)
+        self.holds((OK, said, ""), AXIOMATIC, "--outcomes", "two.litmus", "same.litmus")
+
+    def test_what_is_forbidden_is_left_out(self):
+        expected = [outcome({(1, 0): flag, (1, 1): data}, {0: 1, 1: 1}) for flag in (0, 1) for data in (0, 1)]
+        self.holds((OK, "MP: 4 outcomes\n" + "".join(expected), ""), AXIOMATIC, "--outcomes", LITMUS / "MP.litmus")
+        del expected[2]
+        self.holds((OK, "MP+dmb.sys: 3 outcomes\n" + "".join(expected), ""), AXIOMATIC, "--outcomes",
+                   LITMUS / "MP+dmb.sys.litmus")
+
+    def test_the_stated_verdict_says_nothing(self):
+        self.file("new.litmus", "# expected: allowed\n" + FORBIDDEN)
+        self.holds((OK, "new: 1 outcomes\n" + outcome({}, {0: 1}), ""), AXIOMATIC, "--outcomes", "new.litmus")
+
+    def test_a_bad_listing_has_one_line_and_the_others_are_listed(self):
+        self.file("bad.litmus", "thread\n")
+        self.file("new.litmus", FORBIDDEN)
+        status, out, err = self.run_command(AXIOMATIC, "--outcomes", "bad.litmus", "new.litmus")
+        self.assertEqual((status, out.decode()), (REFUSED, "new: 1 outcomes\n" + outcome({}, {0: 1})))
+        self.assertEqual(err.count("\n"), 1)
 
 
 if __name__ == "__main__":

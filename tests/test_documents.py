@@ -89,7 +89,7 @@ class Refusals(unittest.TestCase):
     meanings = refusals.MEANINGS
 
     def test_readme(self):
-        rows = re.findall(r"^\| (\d+) \| (?:program|step|search)[a-z, ]* \| (.*) \|$", text("README.md"), re.MULTILINE)
+        rows = re.findall(r"^\| (\d+) \| (?:program|step|search|outcomes)[a-z, ]* \| (.*) \|$", text("README.md"), re.MULTILINE)
         self.assertEqual({int(number): meaning for number, meaning in rows}, self.meanings)
 
     def test_header(self):

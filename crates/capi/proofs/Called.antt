@@ -1,23 +1,17 @@
 -- What a call returns and leaves in the area, by the tests that led there.
 -- Assumes nothing.
 use mathlib.Core.Path.{_≡_, ap, ap₂, _∙_}
-use mathlib.Core.Bool.{cond}
-use mathlib.Core.List.{List, _++_}
+use mathlib.Core.List.{List, [], _∷_, _++_}
 use Prim.Native.Nat.{ℕ, _+_, _≤_, _<_}
 use native.Mathlib.Nat.{zero-add}
-use lib.Dec.{ltb}
 use lib.ListN.{length, drop}
 use borrow.Author.Tests.{lt-ltb, le-ltb, eq-eqb, ne-eqb}
 use Rattle.program.specs.declared.Program.{Program}
 use Rattle.machine.specs.declared.Machine.{Machine}
-use Rattle.search.specs.declared.Answer.{Answer}
-use Rattle.program.specs.File.{readFile}
-use Rattle.search.specs.Answers.{areaOn, tableOn, Searched, SearchedWithin}
-use Rattle.encode_bytes.specs.Inner.{put}
+use Rattle.encode_bytes.specs.Places.{put}
 use Rattle.encode_program.specs.Value.{programOf}
 use Rattle.encode_machine.specs.Value.{machineOf}
-use Rattle.encode_answers.specs.Value.{searchedBytes, withinBytes}
-use Rattle.capi.specs.Calls.{Called, called, withAnswer, onArea, onValue, SearchCalled, searchCalled, searchCall, WithinCalled, withinCalled, withinCall}
+use Rattle.capi.specs.Calls.{Called, called, withAnswer, onArea, onValue, CalledBeside, calledBeside, onAreas}
 
 -- ---- an area that is too short, and one with room
 pub short : (n : ℕ) (a : List ℕ) (on : Called) → length a < n → called 1 a ≡ onArea n a on
@@ -32,6 +26,19 @@ other n v a on h = rw (ne-eqb _ _ h)
 
 fits : (n : ℕ) (v a : List ℕ) (on : Called) → length v ≡ n → on ≡ onValue n v a on
 fits n v a on h = rw (eq-eqb _ _ h)
+
+-- ---- areas that are lent besides: one, or two
+pub one : (t t' : List ℕ) → t ≡ t' → _≡_ {A = List (List ℕ)} (t ∷ []) (t' ∷ [])
+one t t' = ap (λ (t : List ℕ). t ∷ [])
+
+pub two : (t t' k k' : List ℕ) → t ≡ t' → k ≡ k' → _≡_ {A = List (List ℕ)} (t ∷ k ∷ []) (t' ∷ k' ∷ [])
+two t t' k k' = ap₂ (λ (t k : List ℕ). t ∷ k ∷ [])
+
+pub short-beside : (n : ℕ) (a : List ℕ) (on : Called) (before after : List (List ℕ)) → length a < n → calledBeside 1 a before ≡ onAreas n a on before after
+short-beside n a on before after h = rw (lt-ltb _ _ h)
+
+beside : List (List ℕ) → Called → CalledBeside
+beside l c = record { call = c; beside = l }
 
 -- ---- two values first
 module _ (n : ℕ) (p x a : List ℕ) (on : Called) (h : n ≤ length a) where
@@ -53,36 +60,10 @@ module _ {R : Type 0} (n : ℕ) (bytes : R → List ℕ) (a a' : List ℕ) (r : 
   pub answer-of-file : (x : R) → r ≡ x → called 0 a' ≡ onArea n a (withAnswer (bytes x) a)
   answer-of-file x e = wrote x e ∙ room n a _ h
 
+  pub answer-beside : (x : R) → r ≡ x → (before after left : List (List ℕ)) → left ≡ after → calledBeside 0 a' left ≡ onAreas n a (withAnswer (bytes x) a) before after
+  unfolding beside
+  answer-beside x e before after left l = ap₂ beside (l ∙ rw (le-ltb _ _ h)) (answer-of-file x e)
+
   pub answer-of-values : {K : Type 0} (f : Program → Machine → K → R) (k : K) (p x : List ℕ) (q : Program) (y : Machine) → length p ≡ 487 → length x ≡ 341 → q ≡ programOf p → y ≡ machineOf x → r ≡ f q y k
       → called 0 a' ≡ onArea n a (onValue 487 p a (onValue 341 x a (withAnswer (bytes (f (programOf p) (machineOf x) k)) a)))
   answer-of-values f k p x q y l m ep ex e = wrote _ (e ∙ ap₂ (λ (q : Program) (y : Machine). f q y k) ep ex) ∙ both-fit n p x a _ h l m
-
--- ---- the search, which is lent a trace area besides
-pub search-short : (f : List ℕ) (b : ℕ) (t a : List ℕ) → length a < 12 → searchCalled 1 a t ≡ searchCall f b t a
-unfolding searchCall
-search-short f b t a h = rw (lt-ltb _ _ h)
-
--- the call with this much in the answer area, and the trace area
-both : List ℕ → Called → SearchCalled
-both t c = record { call = c; trace = t }
-
-pub search-answered : (f : List ℕ) (b : ℕ) (t t' a a' : List ℕ) (r : Answer) → 12 ≤ length a → Searched f b t r t' → a' ≡ put 0 (searchedBytes r) a → searchCalled 0 a' t' ≡ searchCall f b t a
-unfolding searchCall both
-search-answered f b t t' a a' r h s w = ap₂ both (s .lent ∙ rw (le-ltb _ _ h)) (answer-of-file 12 searchedBytes a a' r h w _ (s .answer))
-
--- ---- the search within a table, which is lent that besides
-pub within-short : (f : List ℕ) (b : ℕ) (t k a : List ℕ) → length a < 16 → withinCalled 1 a t k ≡ withinCall f b t k a
-unfolding withinCall
-within-short f b t k a h = rw (lt-ltb _ _ h)
-
-all-three : List ℕ → List ℕ → Called → WithinCalled
-all-three t k c = record { call = c; trace = t; table = k }
-
-pub within-answered : (f : List ℕ) (b : ℕ) (t t' k k' a a' : List ℕ) (r : Answer) → 16 ≤ length a → SearchedWithin f b t k r t' k' → a' ≡ put 0 (withinBytes r) a
-    → withinCalled 0 a' t' k' ≡ withinCall f b t k a
-unfolding withinCall all-three
-within-answered f b t t' k k' a a' r h s w =
-    let e : t' ≡ cond (ltb (length a) 16) t (areaOn (readFile f) b t) = s .searched .lent ∙ rw (le-ltb _ _ h) in
-    let g : k' ≡ cond (ltb (length a) 16) k (tableOn (readFile f) t k) = s .lent-table ∙ rw (le-ltb _ _ h) in
-    let c = answer-of-file 16 withinBytes a a' r h w _ (s .searched .answer) in
-    λ i. all-three (e i) (g i) (c i)

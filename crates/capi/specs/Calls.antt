@@ -1,7 +1,7 @@
 -- What each call returns and leaves in the areas that it is lent, for every input.
 -- Assumes nothing.
-use mathlib.Core.Bool.{cond}
-use mathlib.Core.List.{List, _++_}
+use mathlib.Core.Bool.{true, false, cond}
+use mathlib.Core.List.{List, [], _∷_, _++_}
 use Prim.Native.Nat.{ℕ}
 use lib.Dec.{eqb, ltb}
 use lib.ListN.{length, drop}
@@ -12,9 +12,10 @@ use Rattle.step.specs.Step.{Step, step}
 use Rattle.step.specs.Answers.{stepped}
 use Rattle.trace_replay.specs.Answers.{replay}
 use Rattle.search.specs.Answers.{answerOn, areaOn, tableOn}
+use Rattle.outcomes.specs.Answers.{answerOn as listedOn, tableOn as outcomesOn, machinesOn}
 use Rattle.encode_program.specs.Value.{programOf}
 use Rattle.encode_machine.specs.Value.{machineOf}
-use Rattle.encode_answers.specs.Value.{readBytes, steppedBytes, certifiedBytes, replayedBytes, searchedBytes, withinBytes}
+use Rattle.encode_answers.specs.Value.{readBytes, steppedBytes, certifiedBytes, replayedBytes, searchedBytes, withinBytes, listedBytes, listedWithinBytes}
 
 -- the number that a call returns, and the area after it
 pub record Called : Type 0 where
@@ -57,36 +58,43 @@ certifyCall p x i area =
 unfoldable pub replayCall : List ℕ → List ℕ → List ℕ → Called
 replayCall file trace area = onArea 357 area (withAnswer (replayedBytes (replay file trace)) area)
 
--- what the search's call returns and leaves in the answer area, and the trace area after it
-pub record SearchCalled : Type 0 where
+-- what a call returns and leaves in the answer area, and every area that it is lent besides, after it
+pub record CalledBeside : Type 0 where
   pub call : Called
-  pub trace : List ℕ
+  pub beside : List (List ℕ)
 
-abbrev pub searchCalled : ℕ → List ℕ → List ℕ → SearchCalled
-searchCalled n area trace = record { call = called n area; trace = trace }
+abbrev pub calledBeside : ℕ → List ℕ → List (List ℕ) → CalledBeside
+calledBeside n area beside = record { call = called n area; beside = beside }
 
--- an answer area that is too short: nothing is written in either area
-unfoldable pub searchCall : List ℕ → ℕ → List ℕ → List ℕ → SearchCalled
+-- an answer area shorter than n bytes: 1, and nothing is written in any area
+abbrev pub onAreas : ℕ → List ℕ → Called → List (List ℕ) → List (List ℕ) → CalledBeside
+onAreas n area on before after =
+    record {
+      call = onArea n area on;
+      beside = cond (ltb (length area) n) before after;
+    }
+
+-- ---- the calls that are lent areas besides
+unfoldable pub searchCall : List ℕ → ℕ → List ℕ → List ℕ → CalledBeside
 searchCall file budget trace area =
-    record {
-      call = onArea 12 area (withAnswer (searchedBytes (answerOn (readFile file) budget trace)) area);
-      trace = cond (ltb (length area) 12) trace (areaOn (readFile file) budget trace);
-    }
+    onAreas 12 area (withAnswer (searchedBytes (answerOn (readFile file) budget trace)) area)
+    (trace ∷ [])
+    (areaOn (readFile file) budget trace ∷ [])
 
--- the same of the search within a table, and the table after it
-pub record WithinCalled : Type 0 where
-  pub call : Called
-  pub trace : List ℕ
-  pub table : List ℕ
-
-abbrev pub withinCalled : ℕ → List ℕ → List ℕ → List ℕ → WithinCalled
-withinCalled n area trace table = record { call = called n area; trace = trace; table = table }
-
--- an answer area that is too short: nothing is written in any area
-unfoldable pub withinCall : List ℕ → ℕ → List ℕ → List ℕ → List ℕ → WithinCalled
+unfoldable pub withinCall : List ℕ → ℕ → List ℕ → List ℕ → List ℕ → CalledBeside
 withinCall file budget trace table area =
-    record {
-      call = onArea 16 area (withAnswer (withinBytes (answerOn (readFile file) budget trace)) area);
-      trace = cond (ltb (length area) 16) trace (areaOn (readFile file) budget trace);
-      table = cond (ltb (length area) 16) table (tableOn (readFile file) trace table);
-    }
+    onAreas 16 area (withAnswer (withinBytes (answerOn (readFile file) budget trace)) area)
+    (trace ∷ table ∷ [])
+    (areaOn (readFile file) budget trace ∷ tableOn (readFile file) trace table ∷ [])
+
+unfoldable pub outcomesCall : List ℕ → ℕ → List ℕ → List ℕ → CalledBeside
+outcomesCall file budget outcomes area =
+    onAreas 16 area (withAnswer (listedBytes (listedOn false (readFile file) budget outcomes)) area)
+    (outcomes ∷ [])
+    (outcomesOn false (readFile file) budget outcomes ∷ [])
+
+unfoldable pub outcomesWithinCall : List ℕ → ℕ → List ℕ → List ℕ → List ℕ → CalledBeside
+outcomesWithinCall file budget outcomes table area =
+    onAreas 24 area (withAnswer (listedWithinBytes (listedOn true (readFile file) budget outcomes)) area)
+    (outcomes ∷ table ∷ [])
+    (outcomesOn true (readFile file) budget outcomes ∷ machinesOn (readFile file) table ∷ [])

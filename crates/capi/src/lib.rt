@@ -1,10 +1,13 @@
 // The public calls on byte slices, for programs in C and Rust. Nothing is required of a caller. Each call returns 0; 1 where the
 // answer area is shorter than the answer; 2 where a program or machine value has another length than stated. On 1 and 2 nothing
-// is written; otherwise exactly the answer's bytes, and by the search the trace that it found.
+// is written; otherwise exactly the answer's bytes, and what the search and the listing leave in the areas that they are lent.
 ghost use mathlib.Core.Path.{_≡_};
-ghost use Rattle.capi.specs.Calls.{called, readCall, stepCall, certifyCall, replayCall, searchCalled, searchCall, withinCalled, withinCall};
+ghost use mathlib.Core.List.{[], _∷_};
+ghost use Rattle.capi.specs.Calls.{called, readCall, stepCall, certifyCall, replayCall, calledBeside, searchCall, withinCall, outcomesCall, outcomesWithinCall};
 use certify::certify;
 use encode_answers::put_certified;
+use encode_answers::put_listed;
+use encode_answers::put_listed_within;
 use encode_answers::put_read;
 use encode_answers::put_replayed;
 use encode_answers::put_searched;
@@ -13,6 +16,8 @@ use encode_answers::put_within;
 use encode_machine::machine_of;
 use encode_program::program_of;
 use file_reader::read;
+use outcomes::outcomes;
+use outcomes::outcomes_within;
 use search::search;
 use search::search_within;
 use step::TraceStep;
@@ -109,7 +114,7 @@ pub extern "C" fn blyskota_search(
     area: &mut [u8],
     answer: &mut [u8],
 ) -> u32
-    ensures { λ r. ⌜ searchCalled r (now (answer .exit)) (now (area .exit)) ≡ searchCall (now (file .entry)) budget (now (area .entry)) (now (answer .entry)) ⌝ }
+    ensures { λ r. ⌜ calledBeside r (now (answer .exit)) (now (area .exit) ∷ []) ≡ searchCall (now (file .entry)) budget (now (area .entry)) (now (answer .entry)) ⌝ }
 {
     if answer.len() < 12 {
         return 1;
@@ -127,11 +132,46 @@ pub extern "C" fn blyskota_search_within(
     table: &mut [u8],
     answer: &mut [u8],
 ) -> u32
-    ensures { λ r. ⌜ withinCalled r (now (answer .exit)) (now (area .exit)) (now (table .exit)) ≡ withinCall (now (file .entry)) budget (now (area .entry)) (now (table .entry)) (now (answer .entry)) ⌝ }
+    ensures { λ r. ⌜ calledBeside r (now (answer .exit)) (now (area .exit) ∷ now (table .exit) ∷ []) ≡ withinCall (now (file .entry)) budget (now (area .entry)) (now (table .entry)) (now (answer .entry)) ⌝ }
 {
     if answer.len() < 16 {
         return 1;
     }
     put_within(answer, search_within(file, budget, area, table));
+    0
+}
+
+// All outcomes of a program file with a budget, and a table for them that is lent; 16 bytes.
+#[no_mangle]
+pub extern "C" fn blyskota_outcomes(
+    file: &[u8],
+    budget: u32,
+    table: &mut [u8],
+    answer: &mut [u8],
+) -> u32
+    ensures { λ r. ⌜ calledBeside r (now (answer .exit)) (now (table .exit) ∷ []) ≡ outcomesCall (now (file .entry)) budget (now (table .entry)) (now (answer .entry)) ⌝ }
+{
+    if answer.len() < 16 {
+        return 1;
+    }
+    put_listed(answer, outcomes(file, budget, table));
+    0
+}
+
+// The same with a budget and a count of 64 bits, and a table of machines that is lent besides, of any length; 24 bytes.
+#[no_mangle]
+pub extern "C" fn blyskota_outcomes_within(
+    file: &[u8],
+    budget: u64,
+    outcomes: &mut [u8],
+    table: &mut [u8],
+    answer: &mut [u8],
+) -> u32
+    ensures { λ r. ⌜ calledBeside r (now (answer .exit)) (now (outcomes .exit) ∷ now (table .exit) ∷ []) ≡ outcomesWithinCall (now (file .entry)) budget (now (outcomes .entry)) (now (table .entry)) (now (answer .entry)) ⌝ }
+{
+    if answer.len() < 24 {
+        return 1;
+    }
+    put_listed_within(answer, outcomes_within(file, budget, outcomes, table));
     0
 }

@@ -15,6 +15,7 @@ use Rattle.certify_runs.proofs.Candidates.{relaxed, storesReached, candidates}
 use Rattle.step.specs.Step.{Step, settle, executeStep, promiseStep, kindStep, ruleStep}
 use Rattle.step.specs.Order.{range, forEach}
 use Rattle.step.specs.Outcome.{complete, lastOf, lastValue, holds, questionHolds, asked}
+use Rattle.theory_sequences.specs.Scan.{asking}
 use Rattle.theory_sequences.proofs.Fewer.{each, hunt}
 use Rattle.search_sequences.proofs.Keys.{insertKey}
 use Rattle.search_sequences.proofs.Few.{keysOf, fewOf, few}
@@ -26,13 +27,13 @@ use Rattle.cases_verdicts.specs.Cases.{Case, Right}
 
 -- the programs are well formed: this computes
 unfoldable pub formed : List Case → Bool
-unfolding allOf below sumBelow operand computeMode loadMode storeMode fenceMode decode instrAt codeOf oneStore storesAmong storesFrom stores instructions size modeLimit modeTest registerTest kindTest numberTest instructionTest conditionTest unusedInstruction unusedCondition codeTest programTest freshThread fresh has with without combine readable noneNewer readValue loadAt promised storeAt execute orElse firstFrom byOwnMessage oneMore firstRunWithin firstRun certified relaxed storesReached candidates settle executeStep promiseStep kindStep ruleStep range forEach complete lastOf lastValue holds questionHolds asked each hunt insertKey keysOf fewOf few quick
+unfolding allOf below sumBelow operand computeMode loadMode storeMode fenceMode decode instrAt codeOf oneStore storesAmong storesFrom stores instructions size modeLimit modeTest registerTest kindTest numberTest instructionTest conditionTest unusedInstruction unusedCondition codeTest programTest freshThread fresh has with without combine readable noneNewer readValue loadAt promised storeAt execute orElse firstFrom byOwnMessage oneMore firstRunWithin firstRun certified relaxed storesReached candidates settle executeStep promiseStep kindStep ruleStep range forEach complete lastOf lastValue holds questionHolds asked asking each hunt insertKey keysOf fewOf few quick
 formed [] = true
 formed (c ∷ cs) = programTest (c .asks) && formed cs
 
 -- the quick answers: this computes
 unfoldable pub quicks : List Case → List (Answer Step)
-unfolding allOf below sumBelow operand computeMode loadMode storeMode fenceMode decode instrAt codeOf oneStore storesAmong storesFrom stores instructions size modeLimit modeTest registerTest kindTest numberTest instructionTest conditionTest unusedInstruction unusedCondition codeTest programTest freshThread fresh has with without combine readable noneNewer readValue loadAt promised storeAt execute orElse firstFrom byOwnMessage oneMore firstRunWithin firstRun certified relaxed storesReached candidates settle executeStep promiseStep kindStep ruleStep range forEach complete lastOf lastValue holds questionHolds asked each hunt insertKey keysOf fewOf few quick
+unfolding allOf below sumBelow operand computeMode loadMode storeMode fenceMode decode instrAt codeOf oneStore storesAmong storesFrom stores instructions size modeLimit modeTest registerTest kindTest numberTest instructionTest conditionTest unusedInstruction unusedCondition codeTest programTest freshThread fresh has with without combine readable noneNewer readValue loadAt promised storeAt execute orElse firstFrom byOwnMessage oneMore firstRunWithin firstRun certified relaxed storesReached candidates settle executeStep promiseStep kindStep ruleStep range forEach complete lastOf lastValue holds questionHolds asked asking each hunt insertKey keysOf fewOf few quick
 quicks cs = map (λ (c : Case). quick (c .asks) (c .budget)) cs
 
 quick-answers : (cs : List Case) → T (formed cs) → map (λ (c : Case). answerTo (c .asks) (c .budget)) cs ≡ quicks cs

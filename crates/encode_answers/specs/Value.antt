@@ -14,9 +14,10 @@ use Rattle.step.specs.declared.Stepped.{Stepped}
 use Rattle.step.specs.Answers.{stepRefusal}
 use Rattle.trace_replay.specs.declared.Replayed.{Replayed}
 use Rattle.search.specs.declared.Answer.{Answer}
+use Rattle.outcomes.specs.declared.Answer.{Answer as Listed}
 use Rattle.encode_bytes.specs.Lists.{joined}
 use Rattle.encode_bytes.specs.Numbers.{word32, word64}
-use Rattle.encode_numbers.specs.Cases.{readRefusal, readPlace, certifiedByte, replayRefusal, replayFile, replayIndex, replayPlace, verdictByte, searchRefusal, searchPlace}
+use Rattle.encode_numbers.specs.Cases.{readRefusal, readPlace, certifiedByte, replayRefusal, replayFile, replayIndex, replayPlace, verdictByte, searchRefusal, searchPlace, listingByte, listingRefusal, listingPlace}
 use Rattle.encode_program.specs.Value.{programBytes}
 use Rattle.encode_machine.specs.Value.{machineBytes}
 
@@ -60,3 +61,15 @@ searchedBytes r = foundBytes r ++ word32 (r .count)
 -- ---- search within a table: the same with count u64; 16 bytes
 unfoldable pub withinBytes : Answer → List ℕ
 withinBytes r = foundBytes r ++ word64 (r .count)
+
+-- ---- outcomes: verdict (0 refused, 1 finished, 3 not finished), refusal, 2 zero bytes, place u32
+unfoldable pub listingBytes : Listed → List ℕ
+listingBytes r = (listingByte (r .verdict) ∷ listingRefusal (r .verdict) ∷ 0 ∷ 0 ∷ []) ++ word32 (listingPlace (r .verdict))
+
+-- and count u32, number of outcomes u32; 16 bytes
+unfoldable pub listedBytes : Listed → List ℕ
+listedBytes r = listingBytes r ++ (word32 (r .count) ++ word32 (r .number))
+
+-- ---- outcomes within a table of machines: the same with number of outcomes u32, 4 zero bytes, count u64; 24 bytes
+unfoldable pub listedWithinBytes : Listed → List ℕ
+listedWithinBytes r = listingBytes r ++ (word32 (r .number) ++ (word32 0 ++ word64 (r .count)))

@@ -2,8 +2,8 @@
 ghost use mathlib.Core.Path.{_≡_};
 ghost use Prim.Native.Nat.{_+_, _≤_};
 ghost use lib.ListN.{length};
-ghost use Rattle.encode_bytes.specs.Inner.{put};
-ghost use Rattle.encode_answers.specs.Value.{readBytes, steppedBytes, entriesBytes, certifiedBytes, replayedBytes, foundBytes, searchedBytes, withinBytes};
+ghost use Rattle.encode_bytes.specs.Places.{put};
+ghost use Rattle.encode_answers.specs.Value.{readBytes, steppedBytes, entriesBytes, certifiedBytes, replayedBytes, foundBytes, searchedBytes, withinBytes, listingBytes, listedBytes, listedWithinBytes};
 use certify::Certification;
 use certify_runs::Run;
 use encode_bytes::put_four;
@@ -14,6 +14,9 @@ use encode_bytes::put_u64;
 use encode_machine::put_machine;
 use encode_numbers::certified_byte;
 use encode_numbers::certify_refusal;
+use encode_numbers::listing_byte;
+use encode_numbers::listing_place;
+use encode_numbers::listing_refusal;
 use encode_numbers::read_place;
 use encode_numbers::read_refusal;
 use encode_numbers::replay_file;
@@ -25,6 +28,7 @@ use encode_numbers::search_refusal;
 use encode_numbers::verdict_byte;
 use encode_numbers::yes_byte;
 use encode_program::put_program;
+use outcomes::Answer as Listed;
 use program::FileRead;
 use search::Answer;
 use step::Stepped;
@@ -123,4 +127,34 @@ pub fn put_within(area: &mut [u8], r: Answer)
 {
     put_found(area, r);
     put_u64(area, 8, r.count);
+}
+
+// What both answers of a listing begin with.
+fn put_listing(area: &mut [u8], r: Listed)
+    requires { ⌜ 8 ≤ length (now area) ⌝ }
+    ensures { λ _. ⌜ now (area .exit) ≡ put 0 (listingBytes r) (now (area .entry)) ⌝ }
+{
+    let v = r.verdict;
+    put_four(area, 0, listing_byte(v), listing_refusal(v), 0, 0);
+    put_u32(area, 4, listing_place(v));
+}
+
+pub fn put_listed(area: &mut [u8], r: Listed)
+    requires { ⌜ 16 ≤ length (now area) ⌝ }
+    ensures { λ _. ⌜ now (area .exit) ≡ put 0 (listedBytes r) (now (area .entry)) ⌝ }
+{
+    put_listing(area, r);
+    put_u32(area, 8, r.count as usize);
+    put_u32(area, 12, r.number);
+}
+
+// The same with a count of 64 bits, at a place that 8 divides.
+pub fn put_listed_within(area: &mut [u8], r: Listed)
+    requires { ⌜ 24 ≤ length (now area) ⌝ }
+    ensures { λ _. ⌜ now (area .exit) ≡ put 0 (listedWithinBytes r) (now (area .entry)) ⌝ }
+{
+    put_listing(area, r);
+    put_u32(area, 8, r.number);
+    put_u32(area, 12, 0);
+    put_u64(area, 16, r.count);
 }

@@ -1,4 +1,5 @@
 pub mod Putting
+pub mod Clearing
 pub mod Filling
 pub mod Entries
 pub mod Words

@@ -1,12 +1,8 @@
--- What the functions on bytes promise each other: bytes replaced at a place, and numbers read back.
+-- What the functions on bytes promise each other: numbers read back.
 -- Assumes nothing.
-use mathlib.Core.List.{List, _++_}
+use mathlib.Core.List.{List}
 use Prim.Native.Nat.{ℕ, _+_, _*_, _<_}
-use lib.ListN.{length, getD, take, drop}
-
--- a, with the bytes from place i on replaced by bs; everything else stays
-unfoldable pub put : ℕ → List ℕ → List ℕ → List ℕ
-put i bs a = take i a ++ (bs ++ drop (i + length bs) a)
+use lib.ListN.{getD, drop}
 
 -- every element is a byte
 abbrev pub AllBytes : List ℕ → Type 0

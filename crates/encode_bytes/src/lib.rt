@@ -2,8 +2,9 @@
 ghost use mathlib.Core.Path.{_≡_};
 ghost use mathlib.Core.List.{[], _∷_};
 ghost use Prim.Native.Nat.{_+_, _*_, _≤_};
-ghost use lib.ListN.{length, drop};
-ghost use Rattle.encode_bytes.specs.Inner.{put, word64From};
+ghost use lib.ListN.{length, drop, replicate};
+ghost use Rattle.encode_bytes.specs.Inner.{word64From};
+ghost use Rattle.encode_bytes.specs.Places.{put};
 ghost use Rattle.encode_bytes.specs.Numbers.{word16, word32, word64};
 
 pub fn put_one(area: &mut [u8], at: usize, a: u8)
@@ -84,4 +85,16 @@ pub fn u64_at(b: &[u8], at: usize) -> u64
     let low = u32_of(b[at], b[at + 1], b[at + 2], b[at + 3]);
     let high = u32_of(b[at + 4], b[at + 5], b[at + 6], b[at + 7]);
     low as u64 + 4294967296 * high as u64
+}
+
+// The first n bytes are 0 then.
+pub fn clear_front(area: &mut [u8], n: usize)
+    requires { ⌜ n ≤ length (now area) ⌝ }
+    ensures { λ _. ⌜ now (area .exit) ≡ put 0 (replicate n 0) (now (area .entry)) ⌝ }
+{
+    let mut k = 0;
+    while k < n {
+        area[k] = 0;
+        k += 1;
+    }
 }

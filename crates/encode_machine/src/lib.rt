@@ -7,7 +7,7 @@ ghost use Rattle.theory_views.specs.Views.{viewAt};
 ghost use Rattle.program.specs.File.{byteAt};
 ghost use Rattle.machine.specs.State.{noMessage, freshRegister, freshForward, threadOf};
 ghost use Rattle.encode_bytes.specs.Lists.{joined, entries};
-ghost use Rattle.encode_bytes.specs.Inner.{put};
+ghost use Rattle.encode_bytes.specs.Places.{put};
 ghost use Rattle.encode_machine.specs.Value.{messageBytes, memoryBytes, registerBytes, forwardBytes, viewsBytes, threadBytes, machineBytes, messageFrom, memoryFrom, registerFrom, forwardFrom, viewsFrom, threadFrom, machineOf};
 use encode_bytes::put_one;
 use encode_bytes::put_two;

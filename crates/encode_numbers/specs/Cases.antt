@@ -9,6 +9,8 @@ use Rattle.trace_replay.specs.declared.ReplayAnswer.{ReplayAnswer}
 use Rattle.trace_replay.specs.declared.ReplayAnswer.the-variants.{Good as ReplayGood, ProgramRefused, TraceRefused}
 use Rattle.search.specs.declared.Verdict.{Verdict}
 use Rattle.search.specs.declared.Verdict.the-variants.{Allowed, Forbidden, NotFinished, Refused as SearchRefused}
+use Rattle.outcomes.specs.declared.Verdict.{Verdict as Listing}
+use Rattle.outcomes.specs.declared.Verdict.the-variants.{Finished as Listed, NotFinished as NotListed, Refused as ListingRefused}
 
 -- ---- read
 -- the refusal number
@@ -74,3 +76,22 @@ searchPlace (SearchRefused n place) = place
 searchPlace Allowed = 0
 searchPlace Forbidden = 0
 searchPlace NotFinished = 0
+
+-- ---- outcomes
+-- 1 finished, 3 not finished
+abbrev pub listingByte : Listing → ℕ
+listingByte (ListingRefused n place) = 0
+listingByte Listed = 1
+listingByte NotListed = 3
+
+-- the number of the refusal
+abbrev pub listingRefusal : Listing → ℕ
+listingRefusal (ListingRefused n place) = n
+listingRefusal Listed = 0
+listingRefusal NotListed = 0
+
+-- the place of the refused byte
+abbrev pub listingPlace : Listing → ℕ
+listingPlace (ListingRefused n place) = place
+listingPlace Listed = 0
+listingPlace NotListed = 0

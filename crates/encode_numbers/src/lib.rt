@@ -2,8 +2,9 @@
 ghost use mathlib.Core.Path.{_≡_};
 ghost use mathlib.Core.Bool.{cond};
 ghost use Rattle.certify.specs.Answers.{certifyRefusal};
-ghost use Rattle.encode_numbers.specs.Cases.{readRefusal, readPlace, certifiedByte, replayRefusal, replayFile, replayIndex, replayPlace, verdictByte, searchRefusal, searchPlace};
+ghost use Rattle.encode_numbers.specs.Cases.{readRefusal, readPlace, certifiedByte, replayRefusal, replayFile, replayIndex, replayPlace, verdictByte, searchRefusal, searchPlace, listingByte, listingRefusal, listingPlace};
 use certify::Certified;
+use outcomes::Verdict as Listing;
 use program::ReadAnswer;
 use search::Verdict;
 use trace_replay::ReplayAnswer;
@@ -126,5 +127,36 @@ pub fn search_place(v: Verdict) -> usize
         Verdict::Allowed => 0,
         Verdict::Forbidden => 0,
         Verdict::NotFinished => 0,
+    }
+}
+
+// ---- outcomes
+pub fn listing_byte(v: Listing) -> u8
+    ensures { λ r. ⌜ r ≡ listingByte v ⌝ }
+{
+    match v {
+        Listing::Refused(_, _) => 0,
+        Listing::Finished => 1,
+        Listing::NotFinished => 3,
+    }
+}
+
+pub fn listing_refusal(v: Listing) -> u8
+    ensures { λ r. ⌜ r ≡ listingRefusal v ⌝ }
+{
+    match v {
+        Listing::Refused(n, _) => n,
+        Listing::Finished => 0,
+        Listing::NotFinished => 0,
+    }
+}
+
+pub fn listing_place(v: Listing) -> usize
+    ensures { λ r. ⌜ r ≡ listingPlace v ⌝ }
+{
+    match v {
+        Listing::Refused(_, place) => place,
+        Listing::Finished => 0,
+        Listing::NotFinished => 0,
     }
 }

@@ -4,7 +4,7 @@ ghost use Prim.Native.Nat.{_+_, _≤_};
 ghost use lib.ListN.{length, getD, drop};
 ghost use Rattle.program.specs.Program.{noCondition, instructionAt, codeOf};
 ghost use Rattle.encode_bytes.specs.Lists.{joined, entries};
-ghost use Rattle.encode_bytes.specs.Inner.{put};
+ghost use Rattle.encode_bytes.specs.Places.{put};
 ghost use Rattle.encode_program.specs.Value.{instructionBytes, codeBytes, conditionBytes, programBytes, instructionFrom, codeFrom, conditionFrom, programOf};
 use encode_bytes::put_one;
 use encode_bytes::put_two;

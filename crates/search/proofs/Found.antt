@@ -2,8 +2,8 @@
 -- Assumes nothing.
 use mathlib.Core.Path.{_≡_, refl, sym, subst, _∙_}
 use mathlib.Core.Bool.{true, false}
-use mathlib.Core.List.{List, [], _∷_}
-use mathlib.Core.Option.{Option, none, some, Option·some-injective}
+use mathlib.Core.List.{List}
+use mathlib.Core.Option.{Option, none, some}
 use Prim.Native.Nat.{ℕ, _≤_}
 use lib.Dec.{T}
 use lib.ListN.{length}
@@ -16,25 +16,15 @@ use Rattle.machine.specs.declared.Machine.{Machine}
 use Rattle.machine.specs.State.{fresh}
 use Rattle.theory_sequences.specs.Sequences.{run, wanted}
 use Rattle.theory_sequences.specs.Answer.{allowed}
-use Rattle.theory_sequences.proofs.Listed.{first-step}
-use Rattle.step.specs.Step.{Step, step}
+use Rattle.step.specs.Step.{Step}
 use Rattle.step.specs.Outcome.{complete, questionHolds, asked}
 use Rattle.trace_record.specs.Trace.{traceBytes}
 use Rattle.trace_replay.specs.Replay.{ended}
 use Rattle.trace_replay.specs.Answers.{replayed, replay}
-use Rattle.trace_replay.specs.InTurn.{InTurn, no-step, a-step}
 use Rattle.trace_replay.proofs.Good.{in-turn-replayed, in-turn-holds}
 use Rattle.search_sequences.specs.OfProgram.{stepping, sequencesOf, answerTo}
-use Rattle.search_sequences.proofs.Machine.{taken-accepted}
+use Rattle.search_sequences.proofs.InTurn.{run-in-turn}
 use Rattle.search_sequences.proofs.Meaning.{bound, listed, demand-3}
-
--- a run of the search's machine is steps accepted in turn
-pub run-in-turn : (p : Program) (q : List Step) (x y : Machine) → run (stepping p) x q ≡ some y → InTurn p x q y
-unfolding run
-run-in-turn p [] x y h = subst (InTurn p x []) (Option·some-injective _ _ h) no-step
-run-in-turn p (k ∷ q) x y h =
-    let i = first-step (stepping p) x y k q h in
-    a-step k (i .0) (taken-accepted (step p x k) (i .0) (i .1)) (run-in-turn p q (i .0) y (i .2))
 
 -- a wanted sequence leads to a machine that is complete, with the asked outcome
 wanted-run : (p : Program) (q : List Step) → wanted (stepping p) fresh q ≡ true → (y : Machine) × (run (stepping p) fresh q ≡ some y) × (asked p y ≡ true)

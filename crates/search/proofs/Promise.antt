@@ -28,7 +28,7 @@ use Rattle.search_sequences.proofs.Meaning.{demand-3, more-budget-allowed, more
 use Rattle.trace_record.proofs.Writing.{trace-length}
 use Rattle.search.specs.Answers.{Verdict, Allowed, Forbidden, NotFinished, Answer, answerOf, areaOf, refusal, answerOn, areaOn, Searched, SearchedWithin}
 use Rattle.search.specs.Meaning.{Replays}
-use Rattle.search.proofs.Told.{size-small}
+use Rattle.search_sequences.proofs.Small.{size-small}
 use Rattle.search.proofs.Found.{found-short, found-replays}
 
 -- answers that meet the contract coincide, lent memory included

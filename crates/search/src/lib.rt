@@ -10,6 +10,7 @@ use file_reader::ReadAnswer;
 use file_reader::read;
 use machine::machines::fresh;
 use program::Program;
+use search_arrivals::Aim;
 use search_arrivals::Ran;
 use search_table::clear;
 use search_visits::visit;
@@ -45,7 +46,17 @@ fn search_program(p: Program, budget: u64, area: &mut [u8], table: &mut [u8]) ->
     ensures { λ r. ⌜ AnswersOn p budget r (now (area .entry)) (now (area .exit)) × (now (table .exit) ≡ cleared (now (table .entry))) ⌝ }
 {
     clear(table);
-    let ran = visit(p, fresh(), 0, budget, area, table);
+    let mut sheet = [0u64; 2];
+    let ran = visit(
+        p,
+        fresh(),
+        Aim::Question,
+        0,
+        budget,
+        area,
+        &mut sheet,
+        table,
+    );
     clear(table);
     match ran {
         Ran::Going(b) => Answer {

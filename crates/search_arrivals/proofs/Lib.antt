@@ -1,5 +1,6 @@
 pub mod Ranges
 pub mod Parts
+pub mod Acting
 pub mod Telling
 pub mod Skipped
 pub mod Turns

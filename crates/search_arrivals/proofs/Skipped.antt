@@ -11,31 +11,32 @@ use Rattle.theory_sequences.proofs.Ordered.{among-unmap}
 use Rattle.theory_sequences.specs.Scan.{going}
 use Rattle.step.specs.Step.{Step, step, taken}
 use Rattle.step.specs.Order.{range}
-use Rattle.search_arrivals.specs.Visits.{trying}
+use Rattle.search_arrivals.specs.Visits.{Aim, trying}
+use Rattle.search_outcomes.specs.Table.{Notes}
 use Rattle.search_sequences.proofs.Steps.{range-low, each-from, thread-of}
 use Rattle.search_arrivals.proofs.Ranges.{from, steps-from, up-to, stepsOf, threads-from}
 use Rattle.search_arrivals.proofs.Parts.{skipped, all-skipped}
 use Rattle.search_tries.proofs.Refused.{not-taken, by-kind}
 
-module _ (p : Program) (x : Machine) where
+module _ (p : Program) (a : Aim) (x : Machine) where
   -- ---- threads that the program does not have
-  pub no-more-threads : (i b : ℕ) → p .threads ≤ i → trying p x (threads-from i) b ≡ going b
-  no-more-threads i b h =
-      all-skipped p x (threads-from i) b
-      (λ k a.
-      let r = each-from stepsOf k (from 4 i) a in
+  pub no-more-threads : (i b : ℕ) (n : Notes) → p .threads ≤ i → trying p a x (threads-from i) b n ≡ going b n
+  no-more-threads i b n h =
+      all-skipped p a x (threads-from i) b n
+      (λ k m.
+      let r = each-from stepsOf k (from 4 i) m in
       let l = range-low i (4 - i) (r .0) (r .1) .0 in
       let t = thread-of (r .0) k (r .2) in
       not-taken (step p x k) (λ y e. let q = by-kind p x k y e .0 in omega arith))
 
   -- ---- steps by number: those up to r are refused
-  pub passed-over : (f : ℕ → Step) (n k r b : ℕ) → k ≤ r → r ≤ n → ((j : ℕ) → k ≤ j → j < r → taken (step p x (f j)) ≡ none)
-      → trying p x (steps-from f n k) b ≡ trying p x (steps-from f n r) b
-  passed-over f n k r b h l none-taken =
-      ap (λ (q : List Step). trying p x q b) (up-to f n k r h l)
-      ∙ skipped p x (map f (range k (r - k))) (steps-from f n r) b
-      (λ s a.
-      let u = among-unmap f s (range k (r - k)) a in
+  pub passed-over : (f : ℕ → Step) (n k r b : ℕ) (m : Notes) → k ≤ r → r ≤ n → ((j : ℕ) → k ≤ j → j < r → taken (step p x (f j)) ≡ none)
+      → trying p a x (steps-from f n k) b m ≡ trying p a x (steps-from f n r) b m
+  passed-over f n k r b m h l none-taken =
+      ap (λ (q : List Step). trying p a x q b m) (up-to f n k r h l)
+      ∙ skipped p a x (map f (range k (r - k))) (steps-from f n r) b m
+      (λ s i.
+      let u = among-unmap f s (range k (r - k)) i in
       let w = range-low k (r - k) (u .0) (u .2) in
       let w0 = w .0 in
       let w1 = w .1 in

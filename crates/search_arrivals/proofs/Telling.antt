@@ -1,30 +1,16 @@
--- What the answer of a part of the search says of the whole, and what a step does to the answer below it.
+-- What an answer that goes on says of the search.
 -- Assumes nothing.
-use mathlib.Core.Path.{_≡_, refl, sym, ap, _∙_}
-use mathlib.Core.Bool.{Bool, true, false}
-use mathlib.Core.List.{List}
+use mathlib.Core.Path.{_≡_, refl, sym, ap₂}
 use Prim.Native.Nat.{ℕ}
 use borrow.Author.Tests.{eqb-false}
-use Rattle.program.specs.declared.Program.{Program}
-use Rattle.machine.specs.declared.Machine.{Machine}
 use Rattle.step.specs.Step.{Step}
-use Rattle.step.specs.Outcome.{complete, questionHolds, asked}
 use Rattle.theory_sequences.specs.Scan.{Scan, going, found, out}
 use Rattle.search_arrivals.specs.Visits.{Ran, Going, Reports}
+use Rattle.search_outcomes.specs.Table.{Notes}
 
-module _ {d : ℕ} {r : Ran} {old new : List ℕ} where
-  -- it goes on with what is left, and the area is as it was
-  pub went-on : (o : Scan Step) → Reports d o r old new → (b : ℕ) → r ≡ Going b → (o ≡ going b) × (new ≡ old)
-  went-on (going c) t b e = let q : c ≡ b = let a = t .answer in cc in (ap going q, t .lent)
-  went-on (found c q) t b e = absurd (let a = t .answer in eqb-false 0 1 refl cc)
-  went-on out t b e = absurd (let a = t .answer in eqb-false 0 1 refl cc)
-
--- ---- the asked outcome in its two parts
-module _ (p : Program) (x : Machine) (a : Bool) (e : a ≡ complete p x) where
-  pub asked-both : a ≡ true → (b : Bool) → b ≡ questionHolds p x → asked p x ≡ b
-  unfolding asked
-  asked-both h b g = rw (sym e ∙ h) (sym g)
-
-  pub asked-not : a ≡ false → asked p x ≡ false
-  unfolding asked
-  asked-not h = rw (sym e ∙ h)
+module _ {d : ℕ} {r : Ran} {after : Notes} where
+  -- it goes on with what is left, and leaves what is noted then
+  pub went-on : (o : Scan Step Notes) → Reports d o r after → (b : ℕ) → r ≡ Going b → o ≡ going b after
+  went-on (going c n) t b e = let q : c ≡ b = let a = t .answer in cc in ap₂ going q (sym (t .lent))
+  went-on (found c q n) t b e = absurd (let a = t .answer in eqb-false 0 1 refl cc)
+  went-on (out n) t b e = absurd (let a = t .answer in eqb-false 0 1 refl cc)

@@ -21,9 +21,10 @@ use Rattle.certify_runs.proofs.Candidates.{Write, isIn, candidates}
 use Rattle.certify_runs.proofs.Law.{candidate-law}
 use Rattle.theory_sequences.specs.Sequences.{Among, Ascending, branches}
 use Rattle.theory_sequences.proofs.Ordered.{among-left, among-right, among-cases, among-map, among-unmap, ascending-append}
-use Rattle.theory_sequences.specs.Scan.{told}
+use Rattle.theory_sequences.specs.Scan.{told, asking}
 use Rattle.theory_sequences.proofs.Fewer.{hunt, hunt-answer, rising-same}
 use Rattle.step.specs.Step.{Step, accepted, step}
+use Rattle.step.specs.Outcome.{asked}
 use Rattle.step.specs.Order.{Less, range, forEach, execution, promise, everyStep}
 use Rattle.step.proofs.Backwards.{promisedMemory, promisedThread, Did, executed, promised, did}
 use Rattle.step.proofs.Bound.{well-formed}
@@ -181,6 +182,6 @@ few-same : (p : Program) (x : Machine) (f : Machine → List (List Step)) → br
 few-same p = rising-same (stepping p) (lawful p) (few p) (few-rises p) (few-tried p) (λ x k y e. few-has p x k y (taken-accepted (step p x k) y e))
 
 -- THE ANSWER OVER CANDIDATES IS THE ANSWER
-pub answer-few : (p : Program) (b : ℕ) → told b (hunt (stepping p) (few p) (size p) fresh b) ≡ answerTo p b
+pub answer-few : (p : Program) (b : ℕ) → told b (hunt (stepping p) {N = Unit {0}} (asking (λ x. asked p x)) (few p) (size p) fresh b tt) ≡ answerTo p b
 unfolding answerTo sequencesOf
-answer-few p b = hunt-answer (stepping p) (few p) (few-same p) (size p) fresh b
+answer-few p b = hunt-answer (stepping p) (few p) (few-same p) (size p) fresh b tt

@@ -14,7 +14,8 @@ use Rattle.encode_machine.specs.Value.{machineBytes, machineOf}
 use Rattle.encode_machine.specs.Sized.{SizedMachine}
 use Rattle.encode_machine.proofs.Back.{machine-back}
 use Rattle.encode_machine.proofs.Lengths.{machine-length}
-use Rattle.encode_bytes.specs.Inner.{put, word64From}
+use Rattle.encode_bytes.specs.Inner.{word64From}
+use Rattle.encode_bytes.specs.Places.{put}
 use Rattle.encode_bytes.specs.Numbers.{word64}
 use Rattle.encode_bytes.proofs.Putting.{put-length, put-beside}
 use Rattle.encode_bytes.proofs.Words.{word64-back, same-word64}

@@ -1,4 +1,3 @@
 pub mod Laws
-pub mod Clearing
 pub mod Counting
 pub mod Seeking

@@ -9,7 +9,7 @@ use lib.Seq.{getD-take, getD-drop, ext-getD, length-take-le}
 use Rattle.machine.specs.declared.Machine.{Machine}
 use Rattle.encode_machine.specs.Value.{machineBytes}
 use Rattle.encode_machine.proofs.Lengths.{machine-length}
-use Rattle.encode_bytes.specs.Inner.{put}
+use Rattle.encode_bytes.specs.Places.{put}
 use Rattle.search_table.specs.Table.{keyAt}
 
 pub within-table : (n slot : ℕ) → slot < n / 349 → 349 * slot + 349 ≤ n

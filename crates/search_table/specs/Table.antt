@@ -6,7 +6,8 @@ use Prim.Native.Nat.{ℕ, _+_, _*_, _≤_}
 use lib.ListN.{length, take, drop}
 use Rattle.machine.specs.declared.Machine.{Machine}
 use Rattle.encode_machine.specs.Value.{machineBytes, machineOf}
-use Rattle.encode_bytes.specs.Inner.{put, word64From}
+use Rattle.encode_bytes.specs.Inner.{word64From}
+use Rattle.encode_bytes.specs.Places.{put}
 use Rattle.encode_bytes.specs.Numbers.{word64}
 pub use Rattle.search_table.specs.declared.Seen.{Seen}
 

@@ -6,6 +6,7 @@ ghost use mathlib.Core.Path.{_≡_};
 ghost use Prim.Native.Nat.{ℕ, _+_, _*_, _<_, _≤_};
 ghost use lib.ListN.{length, getD, replicate};
 ghost use Rattle.search_table.specs.Table.{slotWith, Sought};
+use encode_bytes::clear_front;
 use encode_bytes::put_u64;
 use encode_bytes::u64_at;
 use encode_machine::put_machine;
@@ -105,9 +106,6 @@ pub fn empty() -> [u8; 4194304] {
 pub fn clear(table: &mut [u8])
     ensures { λ _. ⌜ now (table .exit) ≡ replicate (length (now (table .entry))) 0 ⌝ }
 {
-    let mut k = 0;
-    while k < table.len() {
-        table[k] = 0;
-        k += 1;
-    }
+    let n = table.len();
+    clear_front(table, n);
 }

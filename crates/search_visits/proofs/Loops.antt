@@ -1,6 +1,6 @@
 -- What the loops of a visit know, on plain values: the machine that is changed in place, and where the search stands.
 -- Assumes nothing.
-use mathlib.Core.Path.{_≡_, refl, sym, ap, subst, _∙_}
+use mathlib.Core.Path.{_≡_, refl, sym, ap, subst, subst₂, _∙_}
 use mathlib.Core.Logic.{_⊎_, inl, ⊎-elim}
 use mathlib.Core.Bool.{Bool, true, false, cond}
 use mathlib.Core.Option.{some}
@@ -9,6 +9,7 @@ use Prim.Native.Nat.{ℕ, zero, suc, _+_, _-_, _*_, _≤_, _<_}
 use native.Mathlib.Omega.{arith}
 use lib.Dec.{T, ltb}
 use lib.ListN.{length, getD, set}
+use borrow.Author.Tests.{eqb-false}
 use Rattle.program.specs.declared.Code.{Code}
 use Rattle.program.specs.declared.Program.{Program}
 use Rattle.machine.specs.declared.Memory.{Memory}
@@ -21,8 +22,8 @@ use Rattle.program.proofs.Arrays.{getD-any}
 use Rattle.certify_runs.specs.Inner as certified
 use Rattle.certify_runs.proofs.Ready.{program-facts, machine-facts, ready-here}
 use Rattle.certify_runs.specs.Inner.{Sound}
-use Rattle.encode_bytes.specs.Inner.{put}
-use Rattle.theory_sequences.specs.Scan.{Scan}
+use Rattle.encode_bytes.specs.Places.{put}
+use Rattle.theory_sequences.specs.Scan.{Scan, going, found, out, andThen, notedOf}
 use Rattle.step.specs.Step.{Step, accepted, rejected, step}
 use Rattle.step.specs.declared.StepAnswer.the-variants.{Taken, Refused}
 use Rattle.step.specs.declared.Moved.{Moved}
@@ -37,7 +38,13 @@ use Rattle.search_sequences.specs.Numbers.{keyPromise}
 use Rattle.search_table.specs.Table.{slotWith}
 use Rattle.search_arrivals.specs.declared.Ran.{Ran}
 use Rattle.search_arrivals.specs.declared.Ran.the-variants.{Going, Found, Out}
-use Rattle.search_arrivals.specs.Visits.{visiting, Reports, Visitable}
+use Rattle.search_arrivals.specs.declared.Aim.{Aim}
+use Rattle.search_arrivals.specs.declared.Aim.the-variants.{Question}
+use Rattle.search_arrivals.specs.Visits.{visiting, trying, Reports, Visitable}
+use Rattle.search_outcomes.specs.Table.{Notes, ending, noted, Orderly}
+use Rattle.machine.specs.Inner.{Formed}
+use Rattle.step.specs.Outcome.{outcome}
+use Rattle.search_outcomes.proofs.Laws.{ending-is}
 use Rattle.search_tries.specs.Steps.{NextOpen, stepNumbered, Numbered, NextStep}
 use Rattle.search_tries.specs.declared.Attempts.{Attempts}
 use Rattle.search_tries.specs.declared.Ahead.{Ahead}
@@ -45,7 +52,10 @@ use Rattle.search_tries.specs.Worthwhile.{Worth, Foreseen, Keepable}
 use Rattle.search_tries.proofs.Refused.{sound-here}
 use Rattle.search_tries.proofs.Worth.{keepable}
 use Rattle.search_visits.proofs.InPlace.{set-again, set-back, taken-off}
-use Rattle.search_arrivals.proofs.Turns.{BeforeThread, BeforeStep, begins, all-done, to-next, first-try, thread-done, to-open, refused-on, went-below, out-below, found-below, has-thread, not-asked}
+use Rattle.search_arrivals.proofs.Turns.{BeforeThread, BeforeStep, begins, all-done, to-next, first-try, thread-done, to-open, refused-on, went-below, out-below, found-below, has-thread, not-ended}
+use Rattle.search_arrivals.proofs.Ranges.{steps-from, threads-from}
+use Rattle.search_arrivals.proofs.Telling.{went-on}
+use Rattle.search_arrivals.proofs.Acting.{visiting-long, visiting-two, visiting-orderly, found-question}
 
 -- y is x but for thread i, and perhaps the memory
 abbrev Others : Machine → ℕ → Machine → Type 0
@@ -57,20 +67,24 @@ open-by-threads p x z i r e n =
     let m : NextOpen p (record { memory = x .memory; threads = z .threads }) i r = record { within = n .within; after = n .after; has-next = n .has-next; ended = n .ended } in
     subst (λ (y : Machine). NextOpen p y i r) (λ j. record { memory = x .memory; threads = e j }) m
 
--- before thread i
-pub record AtThread (p : Program) (x : Machine) (d left : ℕ) (old : List ℕ) (y : Machine) (area : List ℕ) (rest i : ℕ) : Type 0 where
-  pub ready : Visitable p x d old
+-- what is ahead of the search before step k of thread i, with so much left and noted
+abbrev pub aheadOf : Program → Aim → Machine → ℕ → ℕ → ℕ → Notes → Scan Step Notes
+aheadOf p a x i k rest n = andThen (trying p a x (steps-from (stepNumbered i) 4113 k) rest n) (λ b m. trying p a x (threads-from (i + 1)) b m)
+
+-- before thread i; `old` was noted before the visit of x, n is noted now
+pub record AtThread (p : Program) (a : Aim) (x : Machine) (d left : ℕ) (old : Notes) (y : Machine) (n : Notes) (rest i : ℕ) : Type 0 where
+  pub ready : Visitable p a x d n
   pub memory : y .memory ≡ x .memory
   pub four-codes : length (p .codes) ≡ 4
   pub four-threads : length (x .threads) ≡ 4
   pub put-back : y .threads ≡ x .threads
-  pub same : area ≡ old
+  pub as-long : length (n .0) ≡ length (old .0)
   pub has-next : i < 4 → (threadOf x i) .position < (codeOf p i) .count
-  pub stands : BeforeThread p x (visiting p x left) i rest
+  pub stands : BeforeThread p a x (visiting p a x left old) i rest n
 
--- before step k .next of thread i, which has code c, state s and the next instruction w
-pub record AtStep (p : Program) (x : Machine) (d left : ℕ) (old : List ℕ) (i : ℕ) (c : Code) (s : Thread) (w : Instr) (t : Attempts) (y : Machine) (area : List ℕ) (rest : ℕ) (k : Ahead) : Type 0 where
-  pub ready : Visitable p x d old
+-- before step k .next of thread i, which has code c, state s and the next instruction w; `whole` was ahead before the first of its steps, where `old` was noted
+pub record AtStep (p : Program) (a : Aim) (x : Machine) (d : ℕ) (whole : Scan Step Notes) (old : Notes) (i : ℕ) (c : Code) (s : Thread) (w : Instr) (t : Attempts) (y : Machine) (n : Notes) (rest : ℕ) (k : Ahead) : Type 0 where
+  pub ready : Visitable p a x d n
   pub here : Here c (x .memory) s p x i
   pub next-is : instrAt c (s .position) ≡ some w
   pub memory : y .memory ≡ x .memory
@@ -78,8 +92,8 @@ pub record AtStep (p : Program) (x : Machine) (d left : ℕ) (old : List ℕ) (i
   pub worth : Worth c (x .memory) s t
   pub in-program : i < p .threads
   pub ahead : Foreseen c (x .memory) s k
-  pub same : area ≡ old
-  pub stands : BeforeStep p x (visiting p x left) i (k .next) rest
+  pub as-long : length (n .0) ≡ length (old .0)
+  pub stands : BeforeStep p a x whole i (k .next) rest n
 
 pub is-numbered : (i k : ℕ) (s : Step) → s ≡ stepNumbered i k → Numbered s
 unfolding stepNumbered
@@ -97,9 +111,33 @@ step-thread i k = go (ltb k 17)
     go true = refl
     go false = refl
 
-module _ {p : Program} {x : Machine} {d left : ℕ} {old : List ℕ} where
-  pub enters : Visitable p x d old → (left ≡ 0 → ⊥) → (i : ℕ) → NextOpen p x 0 i → (i ≡ 4 → ⊥) → length (p .codes) ≡ 4 → length (x .threads) ≡ 4
-      → AtThread p x d left old x old (left - 1) i
+-- the lent area and the sheet, each under another name
+pub pair-same : {area area' sheet sheet' : List ℕ} → area ≡ area' → sheet ≡ sheet' → _≡_ {A = Notes} (area, sheet) (area', sheet')
+pair-same e f j = (e j, f j)
+
+-- what is written down is the outcome of the machine
+pub ending-noted : (p : Program) (x : Machine) → Formed p x → (wide : Bool) (rest : ℕ) (n : Notes) → noted wide (ending x) rest n ≡ noted wide (outcome p x) rest n
+ending-noted p x o wide rest n = ap (λ (k : List ℕ). noted wide k rest n) (sym (ending-is p x o))
+
+-- after a visit that goes on, what was asked before it may be asked again
+still-ready : {p : Program} {a : Aim} {x : Machine} {d : ℕ} {n : Notes} → Visitable p a x d n → (y : Machine) (b e rest : ℕ) (r : Ran) (mid : Notes) → Reports e (visiting p a y b n) r mid → r ≡ Going rest
+    → Visitable p a x d mid × (length (mid .0) ≡ length (n .0))
+still-ready {p} {a} {x} {d} {n} o y b e rest r mid t g =
+    let same : notedOf (visiting p a y b n) ≡ mid = ap (λ (s : Scan Step Notes). notedOf s) (went-on (visiting p a y b n) t rest g) in
+    let long : length (mid .0) ≡ length (n .0) = ap (λ (m : Notes). length (m .0)) (sym same) ∙ visiting-long p a y b n in (
+      record {
+        well = o .well;
+        short = o .short;
+        two = ap (λ (m : Notes). length (m .1)) (sym same) ∙ visiting-two p a y b n ∙ o .two;
+        room = λ q. let l = o .room q in omega arith;
+        orderly = λ wide q. subst (Orderly wide) same (visiting-orderly p a y b n (o .orderly) wide q);
+      },
+      long,
+    )
+
+module _ {p : Program} {a : Aim} {x : Machine} {d left : ℕ} {old : Notes} where
+  pub enters : Visitable p a x d old → (left ≡ 0 → ⊥) → (i : ℕ) → NextOpen p x 0 i → (i ≡ 4 → ⊥) → length (p .codes) ≡ 4 → length (x .threads) ≡ 4
+      → AtThread p a x d left old x old (left - 1) i
   enters o h i n four q w =
       let top = n .within in
       let l : i < 4 = omega (arith, four) in
@@ -109,12 +147,12 @@ module _ {p : Program} {x : Machine} {d left : ℕ} {old : List ℕ} where
         four-codes = q;
         four-threads = w;
         put-back = refl;
-        same = refl;
+        as-long = refl;
         has-next = n .has-next;
-        stands = to-open p x 0 i (left - 1) n (begins p x left (omega (arith, h)) (not-asked p x i (has-thread p x (o .well) i l (n .has-next l)) (n .has-next l)));
+        stands = to-open p a x 0 i (left - 1) old n (begins p a x left old old (omega (arith, h)) (not-ended p a x (left - 1) old i (has-thread p x (o .well) i l (n .has-next l)) (n .has-next l)));
       }
 
-  module _ {y : Machine} {area : List ℕ} {rest i : ℕ} (T : AtThread p x d left old y area rest i) where
+  module _ {y : Machine} {n : Notes} {rest i : ℕ} (T : AtThread p a x d left old y n rest i) where
     pub in-program : i < 4 → i < p .threads
     in-program h = has-thread p x (T .ready .well) i h (T .has-next h)
 
@@ -140,14 +178,14 @@ module _ {p : Program} {x : Machine} {d left : ℕ} {old : List ℕ} where
         (omega arith, l)
 
     pub first : i < 4 → (c : Code) (s : Thread) → c ≡ codeOf p i → s ≡ threadOf x i → (u : Instr) → instrAt c (s .position) ≡ some u → (t : Attempts) → Worth c (y .memory) s t → (k : Ahead) → NextStep stepNumbered 4113 c (y .memory) s 0 (k .next) × Foreseen c (y .memory) s k
-        → AtStep p y d left area i c s u t y area rest k
+        → AtStep p a y d (aheadOf p a y i (k .next) rest n) n i c s u t y n rest k
     first h c s e f u is-next t worth k next =
         let g : Here c (x .memory) s p x i = record { code = sym e; memory = refl; thread = sym f } in
-        let w = subst (λ (n : Memory). Worth c n s t) (T .memory) worth in
-        let nx = subst (λ (n : Memory). NextStep stepNumbered 4113 c n s 0 (k .next) × Foreseen c n s k) (T .memory) next in
-        subst (λ (z : Machine). AtStep p z d left area i c s u t y area rest k) (sym is-back)
+        let w = subst (λ (m : Memory). Worth c m s t) (T .memory) worth in
+        let nx = subst (λ (m : Memory). NextStep stepNumbered 4113 c m s 0 (k .next) × Foreseen c m s k) (T .memory) next in
+        subst (λ (z : Machine). AtStep p a z d (aheadOf p a z i (k .next) rest n) n i c s u t y n rest k) (sym is-back)
         (record {
-          ready = subst (Visitable p x d) (sym (T .same)) (T .ready);
+          ready = T .ready;
           here = g;
           next-is = is-next;
           memory = T .memory;
@@ -155,40 +193,45 @@ module _ {p : Program} {x : Machine} {d left : ℕ} {old : List ℕ} where
           worth = w;
           in-program = in-program h;
           ahead = nx .1;
-          same = refl;
-          stands = first-try p x i (k .next) rest g h (nx .0) (T .stands);
+          as-long = refl;
+          stands = refl;
         })
 
-    pub ends : 4 ≤ i → Reports d (visiting p x left) (Going rest) old area
+    -- what is ahead before the thread's first step that is worth a try is all that is ahead
+    pub joins : i < 4 → (c : Code) (s : Thread) → c ≡ codeOf p i → s ≡ threadOf x i → (k : Ahead) → NextStep stepNumbered 4113 c (y .memory) s 0 (k .next) → visiting p a x left old ≡ aheadOf p a y i (k .next) rest n
+    joins h c s e f k next =
+        let g : Here c (x .memory) s p x i = record { code = sym e; memory = refl; thread = sym f } in
+        let nx = subst (λ (m : Memory). NextStep stepNumbered 4113 c m s 0 (k .next)) (T .memory) next in
+        subst (λ (z : Machine). visiting p a x left old ≡ aheadOf p a z i (k .next) rest n) (sym is-back) (first-try p a x i (k .next) rest n g h nx (T .stands))
+
+    pub ends : 4 ≤ i → Reports d (visiting p a x left old) (Going rest) n
     ends h =
         let few = program-facts p x (T .ready .well) .few-threads in
-        subst (λ (o : Scan Step). Reports d o (Going rest) old area) (sym (all-done p x i rest (omega arith) (T .stands)))
-        (record { answer = refl; lent = T .same })
+        subst (λ (o : Scan Step Notes). Reports d o (Going rest) n) (sym (all-done p a x i rest n (omega arith) (T .stands)))
+        (record { answer = refl; lent = refl })
+
+    -- an answer to what is ahead before the thread's first try is one to all
+    pub answers : {whole : Scan Step Notes} {r : Ran} {after : Notes} → visiting p a x left old ≡ whole → Reports d whole r after → Reports d (visiting p a x left old) r after
+    answers {whole} {r} {after} e t = subst (λ (o : Scan Step Notes). Reports d o r after) (sym e) t
 
     -- all steps of the thread are done
-    pub leaves : {c : Code} {s : Thread} {u : Instr} {t : Attempts} {y' : Machine} {area' : List ℕ} {rest' : ℕ} {k : Ahead} → AtStep p y d left area i c s u t y' area' rest' k → 4113 ≤ k .next
-        → (z : Machine) → z ≡ record { memory = y' .memory; threads = set (y' .threads) i s } → (r : ℕ) → NextOpen p z (i + 1) r → AtThread p x d left old z area' rest' r
-    leaves {c} {s} {u} {t} {y'} {area'} {rest'} {k} done h z is r v =
-        let U = subst (λ (o : Machine). AtStep p o d left area i c s u t y' area' rest' k) is-back done in
+    pub leaves : {whole : Scan Step Notes} {c : Code} {s : Thread} {u : Instr} {t : Attempts} {y' : Machine} {n' : Notes} {rest' : ℕ} {k : Ahead} → visiting p a x left old ≡ whole → AtStep p a y d whole n i c s u t y' n' rest' k → 4113 ≤ k .next
+        → (z : Machine) → z ≡ record { memory = y' .memory; threads = set (y' .threads) i s } → (r : ℕ) → NextOpen p z (i + 1) r → AtThread p a x d left old z n' rest' r
+    leaves {whole} {c} {s} {u} {t} {y'} {n'} {rest'} {k} all done h z is r v =
+        let U = subst (λ (o : Machine). AtStep p a o d whole n i c s u t y' n' rest' k) is-back done in
         let e = ap (λ (o : Machine). o .threads) is in
         let b : z .threads ≡ x .threads = e ∙ U .others s ∙ ap (set (x .threads) i) (sym (U .here .thread)) ∙ set-back (x .threads) i freshThread in
-        let n = open-by-threads p x z (i + 1) r b v in
+        let next = open-by-threads p x z (i + 1) r b v in
         record {
-          ready = T .ready;
+          ready = U .ready;
           memory = ap (λ (o : Machine). o .memory) is ∙ U .memory;
           four-codes = T .four-codes;
           four-threads = T .four-threads;
           put-back = b;
-          same = U .same ∙ T .same;
-          has-next = n .has-next;
-          stands = to-open p x (i + 1) r rest' n (thread-done p x i (k .next) rest' h (U .stands));
+          as-long = U .as-long ∙ T .as-long;
+          has-next = next .has-next;
+          stands = all ∙ to-open p a x (i + 1) r rest' n' next (thread-done p a x i (k .next) rest' n' h (U .stands));
         }
-
-    -- an answer within the thread's steps is one of the whole
-    pub answers : {r : Ran} {new : List ℕ} → Reports d (visiting p y left) r area new → Reports d (visiting p x left) r old new
-    answers {r} {new} t =
-        subst (λ (a : List ℕ). Reports d (visiting p x left) r a new) (T .same)
-        (subst (λ (z : Machine). Reports d (visiting p z left) r area new) is-back t)
 
     -- what is below y is below x
     pub less-than-whole : (n : ℕ) → n < potential p y → n < potential p x
@@ -198,15 +241,16 @@ module _ {p : Program} {x : Machine} {d left : ℕ} {old : List ℕ} where
     pub whole-written : (slot n : ℕ) (t : List ℕ) {new : List ℕ} → new ≡ slotWith slot y n t → new ≡ slotWith slot x n t
     whole-written slot n t e = e ∙ ap (λ (z : Machine). slotWith slot z n t) is-back
 
-  module _ {i : ℕ} {c : Code} {s : Thread} {w : Instr} {t : Attempts} {o : Machine} {area : List ℕ} {rest : ℕ} {k : Ahead} (U : AtStep p x d left old i c s w t o area rest k) where
+module _ {p : Program} {a : Aim} {x : Machine} {d : ℕ} {whole : Scan Step Notes} {old : Notes} where
+  module _ {i : ℕ} {c : Code} {s : Thread} {w : Instr} {t : Attempts} {o : Machine} {n : Notes} {rest : ℕ} {k : Ahead} (U : AtStep p a x d whole old i c s w t o n rest k) where
     step-ready : certified.Ready c (x .memory) s
     step-ready =
         let h = U .here in
-        subst (λ (n : Code). certified.Ready n (x .memory) s) (h .code)
-        (subst (λ (n : Thread). certified.Ready (codeOf p i) (x .memory) n) (h .thread) (ready-here p x (U .ready .well) i (U .in-program)))
+        subst (λ (m : Code). certified.Ready m (x .memory) s) (h .code)
+        (subst (λ (m : Thread). certified.Ready (codeOf p i) (x .memory) m) (h .thread) (ready-here p x (U .ready .well) i (U .in-program)))
 
     step-sound : Sound (x .memory) s
-    step-sound = subst (λ (n : Thread). Sound (x .memory) n) (U .here .thread) (sound-here p x (machine-facts p x (U .ready .well)) i (U .in-program))
+    step-sound = subst (λ (m : Thread). Sound (x .memory) m) (U .here .thread) (sound-here p x (machine-facts p x (U .ready .well)) i (U .in-program))
 
     -- what an attempt asks, of a memory that is that of x
     pub attemptable : (n : Memory) → n ≡ x .memory → k .next < 4113 → (k' : Step) → k' ≡ stepNumbered i (k .next)
@@ -233,12 +277,18 @@ module _ {p : Program} {x : Machine} {d left : ℕ} {old : List ℕ} where
     pub same-others : (o' : Machine) → o' ≡ o → Others x i o'
     same-others o' e a = ap (λ (z : Machine). set (z .threads) i a) e ∙ U .others a
 
+    -- the step is done, and the search goes on with b left and mid noted
+    pub record Passed (mid : Notes) (b : ℕ) : Type 0 where
+      pub ready-then : Visitable p a x d mid
+      pub long : length (mid .0) ≡ length (n .0)
+      pub stands-then : BeforeStep p a x whole i (k .next + 1) b mid
+
     -- on to the next try, with b left of the budget and t' to try
-    pub on : (t' : Attempts) → Worth c (x .memory) s t' → (b rest' : ℕ) (k' : Ahead) (mid new : List ℕ) (o' : Machine) → o' .memory ≡ x .memory → Others x i o' → k .next < 4113 → BeforeStep p x (visiting p x left) i (k .next + 1) b × (mid ≡ area) → new ≡ mid → rest' ≡ b
-        → NextStep stepNumbered 4113 c (x .memory) s (k .next + 1) (k' .next) × Foreseen c (x .memory) s k' → AtStep p x d left old i c s w t' o' new rest' k'
+    pub on : (t' : Attempts) → Worth c (x .memory) s t' → (b rest' : ℕ) (k' : Ahead) (mid new : Notes) (o' : Machine) → o' .memory ≡ x .memory → Others x i o' → k .next < 4113 → Passed mid b → new ≡ mid → rest' ≡ b
+        → NextStep stepNumbered 4113 c (x .memory) s (k .next + 1) (k' .next) × Foreseen c (x .memory) s k' → AtStep p a x d whole old i c s w t' o' new rest' k'
     on t' worth b rest' k' mid new o' same-memory others l v e f nx =
         record {
-          ready = U .ready;
+          ready = subst (Visitable p a x d) (sym e) (v .ready-then);
           here = U .here;
           next-is = U .next-is;
           memory = same-memory;
@@ -246,8 +296,8 @@ module _ {p : Program} {x : Machine} {d left : ℕ} {old : List ℕ} where
           worth = worth;
           in-program = U .in-program;
           ahead = nx .1;
-          same = e ∙ v .1 ∙ U .same;
-          stands = to-next p x i (k .next + 1) (k' .next) rest' (U .here) (omega arith) (nx .0) (subst (BeforeStep p x (visiting p x left) i (k .next + 1)) (sym f) (v .0));
+          as-long = ap (λ (m : Notes). length (m .0)) e ∙ v .long ∙ U .as-long;
+          stands = to-next p a x i (k .next + 1) (k' .next) rest' new (U .here) (omega arith) (nx .0) (subst₂ (BeforeStep p a x whole i (k .next + 1)) (sym f) (sym e) (v .stands-then));
         }
 
     module _ (l : k .next < 4113) (k' : Step) (e : k' ≡ stepNumbered i (k .next)) (r : Moved) (q : Moves c (x .memory) s k' r) where
@@ -260,10 +310,15 @@ module _ {p : Program} {x : Machine} {d left : ℕ} {old : List ℕ} where
       in-program-too : k' .thread < p .threads
       in-program-too = let h = thread-is in let g = U .in-program in omega arith
 
-      pub is-rejected : (n : ℕ) → r .answer ≡ Refused n → BeforeStep p x (visiting p x left) i (k .next + 1) rest
-      is-rejected n h =
-          refused-on p x i (k .next) rest l (U .stands) n
-          (subst (λ (y : Step). step p x y ≡ rejected n) e (thread-refused p x (U .ready .well) k' in-program-too here-too r q n h))
+      pub is-rejected : (j : ℕ) → r .answer ≡ Refused j → Passed n rest
+      is-rejected j h =
+          record {
+            ready-then = U .ready;
+            long = refl;
+            stands-then =
+                refused-on p a x i (k .next) rest n l (U .stands) j
+                (subst (λ (y : Step). step p x y ≡ rejected j) e (thread-refused p x (U .ready .well) k' in-program-too here-too r q j h));
+          }
 
       -- the memory with the message of a promise, and the threads as they are
       pub record Promised (z : Machine) : Type 0 where
@@ -324,25 +379,38 @@ module _ {p : Program} {x : Machine} {d left : ℕ} {old : List ℕ} where
         pub lower : potential p y < potential p x
         lower = lowers p x y (stepNumbered i (k .next)) is-accepted
 
-        ready-old : Visitable p y (d + 1) old
-        ready-old =
+        pub ready-below : Visitable p a y (d + 1) n
+        ready-below =
             let o = U .ready in
             record {
               well = record { program-formed = o .well .program-formed; machine-formed = kept p x y (stepNumbered i (k .next)) is-accepted };
-              room = let b = lower in let w = o .room in omega arith;
+              short = let b = lower in let s = o .short in omega arith;
+              two = o .two;
+              room = o .room;
+              orderly = o .orderly;
             }
 
-        pub ready-below : Visitable p y (d + 1) area
-        ready-below = subst (Visitable p y (d + 1)) (sym (U .same)) ready-old
+        module _ (ran : Ran) (mid : Notes) (below : Reports (d + 1) (visiting p a y rest n) ran mid) where
+          pub goes-on : (b : ℕ) → ran ≡ Going b → Passed mid b
+          goes-on b f =
+              let s = still-ready (U .ready) y rest (d + 1) b ran mid below f in
+              record { ready-then = s .0; long = s .1; stands-then = went-below p a x i (k .next) rest n l (U .stands) y is-accepted (d + 1) b ran mid below f }
 
-        module _ (a : Ran) (mid : List ℕ) (below : Reports (d + 1) (visiting p y rest) a area mid) where
-          pub goes-on : (b : ℕ) → a ≡ Going b → BeforeStep p x (visiting p x left) i (k .next + 1) b × (mid ≡ area)
-          goes-on b f = went-below p x i (k .next) rest l (U .stands) y is-accepted (d + 1) b a area mid below f
+          pub runs-out : ran ≡ Out → Reports d whole Out mid
+          runs-out f = out-below p a x i (k .next) rest n l (U .stands) y is-accepted d ran mid below f
 
-          pub runs-out : a ≡ Out → Reports d (visiting p x left) Out old mid
-          runs-out f = subst (λ (v : List ℕ). Reports d (visiting p x left) Out v mid) (U .same) (out-below p x i (k .next) rest l (U .stands) y is-accepted d a area mid below f)
+          -- only a search that asks the question ends early
+          pub asks : (b j : ℕ) → ran ≡ Found b j → a ≡ Question
+          asks b j f = go (visiting p a y rest n) refl below
+            where
+              go : (s : Scan Step Notes) → visiting p a y rest n ≡ s → Reports (d + 1) s ran mid → a ≡ Question
+              go (going c m) q u = absurd (let v = u .answer in eqb-false 0 1 refl cc)
+              go (out m) q u = absurd (let v = u .answer in eqb-false 0 1 refl cc)
+              go (found c s' m) q u = found-question p a y rest c n m s' q
 
-          pub finds : (b n : ℕ) → a ≡ Found b n → (new : List ℕ) → new ≡ put (d * 6) (stepBytes k') mid → Reports d (visiting p x left) (Found b n) old new
-          finds b n f new g =
-              subst (λ (v : List ℕ). Reports d (visiting p x left) (Found b n) v new) (U .same)
-              (found-below p x i (k .next) rest l (U .stands) y is-accepted d b n a area mid new ready-below below f k' e g)
+          -- and then the area has room for the step
+          pub room-here : (b j : ℕ) → ran ≡ Found b j → 480 ≤ length (n .0)
+          room-here b j f = U .ready .room (asks b j f)
+
+          pub finds : (b j : ℕ) → ran ≡ Found b j → (new : Notes) → new ≡ (put (d * 6) (stepBytes k') (mid .0), mid .1) → Reports d whole (Found b j) new
+          finds b j f new g = found-below p a x i (k .next) rest n l (U .stands) y is-accepted d b j ran mid new ready-below below f k' e g

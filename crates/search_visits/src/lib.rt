@@ -3,9 +3,11 @@ ghost use Rattle.search_table.specs.Table.{EverySlot};
 ghost use Rattle.search_arrivals.specs.Visits.{visiting, Reports, Visitable, Known, Opens};
 use machine::Machine;
 use program::Program;
+use search_arrivals::Aim;
 use search_arrivals::Arrival;
 use search_arrivals::Ran;
 use search_arrivals::arrive;
+use search_outcomes::note;
 use search_table::SLOT;
 use search_table::keep;
 use search_tries::after_try;
@@ -28,13 +30,15 @@ fn walk(
     x: Machine,
     first: u8,
     slot: usize,
+    aim: Aim,
     depth: usize,
     left: u64,
     area: &mut [u8],
+    sheet: &mut [u64; 2],
     table: &mut [u8],
 ) -> Ran
-    requires { ⌜ Visitable p x depth (now area) × Opens p x left (now table) first slot × EverySlot (Known p) (now table) ⌝ }
-    ensures { λ r. ⌜ Reports depth (visiting p x left) r (now (area .entry)) (now (area .exit)) × EverySlot (Known p) (now (table .exit)) ⌝ }
+    requires { ⌜ Visitable p aim x depth (now area, now sheet) × Opens p x left (now table) first slot × EverySlot (Known p aim (now area, now sheet)) (now table) ⌝ }
+    ensures { λ r. ⌜ Reports depth (visiting p aim x left (now (area .entry), now (sheet .entry))) r (now (area .exit), now (sheet .exit)) × EverySlot (Known p aim (now (area .exit), now (sheet .exit))) (now (table .exit)) ⌝ }
 {
     let mut y = x;
     let mut rest = left - 1;
@@ -56,9 +60,15 @@ fn walk(
                 }
                 let q = r.thread;
                 y.threads[i as usize] = q;
-                let ran = match arrive(p, y, depth + 1, rest, table) {
+                let ran = match arrive(p, y, aim, depth + 1, rest, table) {
                     Arrival::Over(o) => o,
-                    Arrival::Open(f, l) => walk(p, y, f, l, depth + 1, rest, area, table),
+                    Arrival::Ending(wide, b) => {
+                        note(area, sheet, wide, y, b);
+                        Ran::Going(b)
+                    }
+                    Arrival::Open(f, l) => {
+                        walk(p, y, f, l, aim, depth + 1, rest, area, sheet, table)
+                    }
                 };
                 if 0 < step.kind {
                     y.memory = memory_before(y.memory);
@@ -88,16 +98,24 @@ fn walk(
 pub fn visit(
     p: Program,
     x: Machine,
+    aim: Aim,
     depth: usize,
     left: u64,
     area: &mut [u8],
+    sheet: &mut [u64; 2],
     table: &mut [u8],
 ) -> Ran
-    requires { ⌜ Visitable p x depth (now area) × EverySlot (Known p) (now table) ⌝ }
-    ensures { λ r. ⌜ Reports depth (visiting p x left) r (now (area .entry)) (now (area .exit)) × EverySlot (Known p) (now (table .exit)) ⌝ }
+    requires { ⌜ Visitable p aim x depth (now area, now sheet) × EverySlot (Known p aim (now area, now sheet)) (now table) ⌝ }
+    ensures { λ r. ⌜ Reports depth (visiting p aim x left (now (area .entry), now (sheet .entry))) r (now (area .exit), now (sheet .exit)) × EverySlot (Known p aim (now (area .exit), now (sheet .exit))) (now (table .exit)) ⌝ }
 {
-    match arrive(p, x, depth, left, table) {
+    match arrive(p, x, aim, depth, left, table) {
         Arrival::Over(ran) => ran,
-        Arrival::Open(first, slot) => walk(p, x, first, slot, depth, left, area, table),
+        Arrival::Ending(wide, rest) => {
+            note(area, sheet, wide, x, rest);
+            Ran::Going(rest)
+        }
+        Arrival::Open(first, slot) => {
+            walk(p, x, first, slot, aim, depth, left, area, sheet, table)
+        }
     }
 }

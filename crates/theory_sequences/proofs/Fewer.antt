@@ -9,61 +9,71 @@ use Rattle.theory_sequences.specs.Stepping.{Stepping}
 use Rattle.theory_sequences.specs.Sequences.{Among, Ascending, run, wanted, begun, branches, upto}
 use Rattle.theory_sequences.specs.Lawful.{Lawful}
 use Rattle.theory_sequences.specs.Answer.{answer}
-use Rattle.theory_sequences.proofs.Scan.{answer-told, scan-append, scan-map, wanted-step}
-use Rattle.theory_sequences.specs.Scan.{Scan, going, found, out, scan, told, andThen, under}
+use Rattle.theory_sequences.proofs.Scan.{answer-told, scan-same, scan-append, scan-map, done-step, asked-wanted}
+use Rattle.theory_sequences.specs.Scan.{Scan, going, found, out, scan, told, andThen, under, Act, asking, doneAt}
 
-module _ (M : Stepping) where
+module _ (M : Stepping) {N : Type 0} where
   -- ---- the search
 
   -- the search below each of the steps ks in turn, where f searches from a state
-  unfoldable pub each : (M .State → ℕ → Scan (M .Step)) → M .State → List (M .Step) → ℕ → Scan (M .Step)
-  each f s [] b = going b
-  each f s (k ∷ ks) b = elim (M .next s k) [ none ↦ each f s ks b | some t ↦ andThen (under k (f t b)) (λ c. each f s ks c) ]
+  unfoldable pub each : (M .State → ℕ → N → Scan (M .Step) N) → M .State → List (M .Step) → ℕ → N → Scan (M .Step) N
+  each f s [] b n = going b n
+  each f s (k ∷ ks) b n = elim (M .next s k) [ none ↦ each f s ks b n | some t ↦ andThen (under k (f t b n)) (λ c m. each f s ks c m) ]
 
-  -- the search from s with b left, through sequences of at most n steps
-  unfoldable pub hunt : (M .State → List (M .Step)) → ℕ → M .State → ℕ → Scan (M .Step)
-  hunt few zero s zero = out
-  hunt few zero s (suc b) = elim (M .asked s) [ true ↦ found b [] | false ↦ going b ]
-  hunt few (suc n) s zero = out
-  hunt few (suc n) s (suc b) = elim (M .asked s) [ true ↦ found b [] | false ↦ each (λ t c. hunt few n t c) s (few s) b ]
+  -- the search from s with b left and m noted, through sequences of at most n steps
+  unfoldable pub hunt : Act M N → (M .State → List (M .Step)) → ℕ → M .State → ℕ → N → Scan (M .Step) N
+  hunt act few zero s zero m = out m
+  hunt act few zero s (suc b) m = elim (act s b m) [ none ↦ found b [] m | some k ↦ going b k ]
+  hunt act few (suc n) s zero m = out m
+  hunt act few (suc n) s (suc b) m = elim (act s b m) [ none ↦ found b [] m | some k ↦ each (λ t c j. hunt act few n t c j) s (few s) b k ]
 
-  pub and-then-same : (x : Scan (M .Step)) (f g : ℕ → Scan (M .Step)) → ((c : ℕ) → f c ≡ g c) → andThen x f ≡ andThen x g
-  and-then-same (going c) f g h = h c
-  and-then-same (found c q) f g h = refl
-  and-then-same out f g h = refl
+  pub and-then-same : (x : Scan (M .Step) N) (f g : ℕ → N → Scan (M .Step) N) → ((c : ℕ) (m : N) → f c m ≡ g c m) → andThen x f ≡ andThen x g
+  and-then-same (going c m) f g h = h c m
+  and-then-same (found c q m) f g h = refl
+  and-then-same (out m) f g h = refl
 
-  each-is : (f : M .State → ℕ → Scan (M .Step)) (l : M .State → List (List (M .Step))) → ((t : M .State) (b : ℕ) → f t b ≡ scan (wanted M t) (l t) b)
-      → (s : M .State) (ks : List (M .Step)) (b : ℕ) → each f s ks b ≡ scan (wanted M s) (branches M l s ks) b
-  unfolding each branches scan
-  each-is f l h s [] b = refl
-  each-is f l h s (k ∷ ks) b = go (M .next s k) refl (λ c. each-is f l h s ks c)
-    where
-      go : (o : Option (M .State)) → M .next s k ≡ o → ((c : ℕ) → each f s ks c ≡ scan (wanted M s) (branches M l s ks) c)
-          → elim o [ none ↦ each f s ks b | some t ↦ andThen (under k (f t b)) (λ c. each f s ks c) ]
-          ≡ scan (wanted M s) (begun M l k o ++ branches M l s ks) b
-      go none e rec = rec b
-      go (some t) e rec =
-          ap (λ (x : Scan (M .Step)). andThen (under k x) (λ c. each f s ks c)) (h t b)
-          ∙ ap (λ (x : Scan (M .Step)). andThen x (λ c. each f s ks c)) (sym (scan-map (wanted M s) (wanted M t) k (wanted-step M s t k e) (l t) b))
-          ∙ and-then-same (scan (wanted M s) (begun M l k (some t)) b) (λ c. each f s ks c) (λ c. scan (wanted M s) (branches M l s ks) c) rec
-          ∙ sym (scan-append (wanted M s) (begun M l k (some t)) (branches M l s ks) b)
+  module _ (act : Act M N) where
+    each-is : (f : M .State → ℕ → N → Scan (M .Step) N) (l : M .State → List (List (M .Step))) → ((t : M .State) (b : ℕ) (m : N) → f t b m ≡ scan (doneAt M act t) (l t) b m)
+        → (s : M .State) (ks : List (M .Step)) (b : ℕ) (m : N) → each f s ks b m ≡ scan (doneAt M act s) (branches M l s ks) b m
+    unfolding each branches scan
+    each-is f l h s [] b m = refl
+    each-is f l h s (k ∷ ks) b m = go (M .next s k) refl (λ c j. each-is f l h s ks c j)
+      where
+        go : (o : Option (M .State)) → M .next s k ≡ o → ((c : ℕ) (j : N) → each f s ks c j ≡ scan (doneAt M act s) (branches M l s ks) c j)
+            → elim o [ none ↦ each f s ks b m | some t ↦ andThen (under k (f t b m)) (λ c j. each f s ks c j) ]
+            ≡ scan (doneAt M act s) (begun M l k o ++ branches M l s ks) b m
+        go none e rec = rec b m
+        go (some t) e rec =
+            ap (λ (x : Scan (M .Step) N). andThen (under k x) (λ c j. each f s ks c j)) (h t b m)
+            ∙ ap (λ (x : Scan (M .Step) N). andThen x (λ c j. each f s ks c j)) (sym (scan-map (doneAt M act s) (doneAt M act t) k (done-step M act s t k e) (l t) b m))
+            ∙ and-then-same (scan (doneAt M act s) (begun M l k (some t)) b m) (λ c j. each f s ks c j) (λ c j. scan (doneAt M act s) (branches M l s ks) c j) rec
+            ∙ sym (scan-append (doneAt M act s) (begun M l k (some t)) (branches M l s ks) b m)
 
   module _ (few : M .State → List (M .Step)) (same : (s : M .State) (f : M .State → List (List (M .Step))) → branches M f s (few s) ≡ branches M f s (M .steps)) where
     -- where the steps left out make no difference, the search is the search through the list
-    pub hunt-is : (n : ℕ) (s : M .State) (b : ℕ) → hunt few n s b ≡ scan (wanted M s) (upto M n s) b
-    unfolding hunt upto scan wanted run
-    hunt-is zero s zero = refl
-    hunt-is zero s (suc b) = refl
-    hunt-is (suc n) s zero = refl
-    hunt-is (suc n) s (suc b) =
-        ap (λ (x : Scan (M .Step)). elim (M .asked s) [ true ↦ found b [] | false ↦ x ])
-        (each-is (λ t c. hunt few n t c) (λ t. upto M n t) (λ t c. hunt-is n t c) s (few s) b
-        ∙ ap (λ (l : List (List (M .Step))). scan (wanted M s) l b) (same s (λ t. upto M n t)))
+    pub hunt-is : (act : Act M N) (n : ℕ) (s : M .State) (b : ℕ) (m : N) → hunt act few n s b m ≡ scan (doneAt M act s) (upto M n s) b m
+    unfolding hunt upto scan doneAt run
+    hunt-is act zero s zero m = refl
+    hunt-is act zero s (suc b) m = refl
+    hunt-is act (suc n) s zero m = refl
+    hunt-is act (suc n) s (suc b) m = go (act s b m) (λ k.
+        each-is act (λ t c j. hunt act few n t c j) (λ t. upto M n t) (λ t c j. hunt-is act n t c j) s (few s) b k
+        ∙ ap (λ (l : List (List (M .Step))). scan (doneAt M act s) l b k) (same s (λ t. upto M n t)))
+      where
+        go : (o : Option N) → ((k : N) → each (λ t c j. hunt act few n t c j) s (few s) b k ≡ scan (doneAt M act s) (branches M (λ t. upto M n t) s (M .steps)) b k)
+            → _≡_ {A = Scan (M .Step) N} (elim o [ none ↦ found b [] m | some k ↦ each (λ t c j. hunt act few n t c j) s (few s) b k ])
+            (elim o [ none ↦ found b [] m | some k ↦ scan (doneAt M act s) (branches M (λ t. upto M n t) s (M .steps)) b k ])
+        go none h = refl
+        go (some k) h = h k
 
     -- and so it gives the answer
-    pub hunt-answer : (n : ℕ) (s : M .State) (b : ℕ) → told b (hunt few n s b) ≡ answer (wanted M s) (upto M n s) b
-    hunt-answer n s b = ap (λ (x : Scan (M .Step)). told b x) (hunt-is n s b) ∙ answer-told (wanted M s) (upto M n s) b
+    pub hunt-answer : (n : ℕ) (s : M .State) (b : ℕ) (m : N) → told b (hunt (asking (M .asked)) few n s b m) ≡ answer (wanted M s) (upto M n s) b
+    hunt-answer n s b m =
+        ap (λ (x : Scan (M .Step) N). told b x)
+        (hunt-is (asking (M .asked)) n s b m ∙ scan-same (doneAt M (asking (M .asked)) s) (asking (wanted M s)) (λ q c j. asked-wanted M s q c j) (upto M n s) b m)
+        ∙ answer-told (wanted M s) (upto M n s) b m
 
+module _ (M : Stepping) where
   -- ---- which steps may be left out
 
   -- the first list is the second with some steps left out, each refused on s

@@ -4,3 +4,6 @@ pub mod Meets
 pub mod Scan
 pub mod Fewer
 pub mod Alike
+pub mod Entered
+pub mod Listing
+pub mod Gathering

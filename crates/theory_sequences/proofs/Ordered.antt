@@ -33,6 +33,12 @@ module _ {A : Type 0} where
   among-at (b ∷ l) zero d h = inl refl
   among-at (b ∷ l) (suc i) d h = inr (among-at l i d (omega arith))
 
+  -- a member stands at a place of the list
+  pub among-place : (a : A) (l : List A) (d : A) → Among a l → (i : ℕ) × (i < length l) × (getD l i d ≡ a)
+  among-place a [] d h = absurd h
+  among-place a (b ∷ l) d (inl e) = (0, omega arith, sym e)
+  among-place a (b ∷ l) d (inr h) = let r = among-place a l d h in let n = r .1 in (suc (r .0), omega arith, r .2)
+
 module _ {A B : Type 0} (f : A → B) where
   -- the image of a member is a member of the image
   pub among-map : (a : A) (l : List A) → Among a l → Among (f a) (map f l)
@@ -52,6 +58,14 @@ module _ {A : Type 0} (R : A → A → Type 0) where
   ascending-append [] y s t h = t
   ascending-append (a ∷ x) y s t h =
       ((λ b i. ⊎-elim (λ j. s .0 b j) (λ j. h a b (inl refl) j) (among-cases b x y i)), ascending-append x y (s .1) t (λ c d i j. h c d (inr i) j))
+
+  -- two members of an ascending list are equal if neither is before the other
+  pub one-of-alike : (a b : A) (l : List A) → Ascending R l → Among a l → Among b l → (R a b → ⊥) → (R b a → ⊥) → a ≡ b
+  one-of-alike a b [] s i j f g = absurd i
+  one-of-alike a b (c ∷ l) s (inl i) (inl j) f g = i ∙ sym j
+  one-of-alike a b (c ∷ l) s (inl i) (inr j) f g = absurd (f (rw i (s .0 b j)))
+  one-of-alike a b (c ∷ l) s (inr i) (inl j) f g = absurd (g (rw j (s .0 a i)))
+  one-of-alike a b (c ∷ l) s (inr i) (inr j) f g = one-of-alike a b l (s .1) i j f g
 
   -- where of two at most one is before the other, two ascending lists with the same members are equal
   pub same-members : ((a b : A) → R a b → R b a → ⊥) → (x y : List A) → Ascending R x → Ascending R y → ((a : A) → Among a x → Among a y)

@@ -3,4 +3,5 @@ pub mod Sequences
 pub mod Answer
 pub mod Scan
 pub mod Demand
+pub mod Listing
 pub mod Lawful

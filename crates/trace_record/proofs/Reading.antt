@@ -9,7 +9,7 @@ use lib.ListN.{length, take, drop}
 use lib.Seq.{drop-cons, length-take-le, getD-append-add}
 use Rattle.program.specs.File.{byteAt}
 use Rattle.step.specs.Step.{Step}
-use Rattle.encode_bytes.specs.Inner.{put}
+use Rattle.encode_bytes.specs.Places.{put}
 use Rattle.trace_record.specs.Trace.{stepBytes}
 use Rattle.trace_record.specs.Inner.{markedAt, stepAt}
 

@@ -7,7 +7,7 @@ use native.Mathlib.Omega.{arith}
 use lib.ListN.{length, take, drop}
 use lib.Seq.{take-append-le, take-take, drop-at, length-take-le}
 use Rattle.step.specs.Step.{Step}
-use Rattle.encode_bytes.specs.Inner.{put}
+use Rattle.encode_bytes.specs.Places.{put}
 use Rattle.trace_record.specs.Trace.{stepBytes, traceBytes}
 
 pub trace-length : (q : List Step) → length (traceBytes q) ≡ 6 * length q

@@ -2,7 +2,7 @@
 ghost use mathlib.Core.Path.{_≡_};
 ghost use Prim.Native.Nat.{_+_, _≤_};
 ghost use lib.ListN.{length};
-ghost use Rattle.encode_bytes.specs.Inner.{put};
+ghost use Rattle.encode_bytes.specs.Places.{put};
 ghost use Rattle.trace_record.specs.Inner.{markedAt, stepAt};
 ghost use Rattle.trace_record.specs.Trace.{stepBytes};
 use step::TraceStep;

@@ -1,4 +1,4 @@
-//! The six C calls on slices. Each gives 0, 1 where the answer area is shorter than the answer, or
+//! The eight C calls on slices. Each gives 0, 1 where the answer area is shorter than the answer, or
 //! 2 where a program or machine value has another length than stated; on 1 and 2 nothing is written.
 //! This is the only unsafe code: a slice passes as its pointer and its length.
 
@@ -54,6 +54,26 @@ mod c {
             budget: u64,
             area: *mut u8,
             area_length: usize,
+            table: *mut u8,
+            table_length: usize,
+            answer: *mut u8,
+            answer_length: usize,
+        ) -> u32;
+        pub fn blyskota_outcomes(
+            file: *const u8,
+            file_length: usize,
+            budget: u32,
+            table: *mut u8,
+            table_length: usize,
+            answer: *mut u8,
+            answer_length: usize,
+        ) -> u32;
+        pub fn blyskota_outcomes_within(
+            file: *const u8,
+            file_length: usize,
+            budget: u64,
+            outcomes: *mut u8,
+            outcomes_length: usize,
             table: *mut u8,
             table_length: usize,
             answer: *mut u8,
@@ -140,6 +160,44 @@ pub fn search_within(file: &[u8], budget: u64, area: &mut [u8], table: &mut [u8]
             budget,
             area.as_mut_ptr(),
             area.len(),
+            table.as_mut_ptr(),
+            table.len(),
+            answer.as_mut_ptr(),
+            answer.len(),
+        )
+    }
+}
+
+pub fn outcomes(file: &[u8], budget: u32, table: &mut [u8], answer: &mut [u8]) -> u32 {
+    // SAFETY: the pointers are of live slices with these lengths, two of them lent mutably and apart.
+    unsafe {
+        c::blyskota_outcomes(
+            file.as_ptr(),
+            file.len(),
+            budget,
+            table.as_mut_ptr(),
+            table.len(),
+            answer.as_mut_ptr(),
+            answer.len(),
+        )
+    }
+}
+
+pub fn outcomes_within(
+    file: &[u8],
+    budget: u64,
+    outcomes: &mut [u8],
+    table: &mut [u8],
+    answer: &mut [u8],
+) -> u32 {
+    // SAFETY: the pointers are of live slices with these lengths, three of them lent mutably and apart.
+    unsafe {
+        c::blyskota_outcomes_within(
+            file.as_ptr(),
+            file.len(),
+            budget,
+            outcomes.as_mut_ptr(),
+            outcomes.len(),
             table.as_mut_ptr(),
             table.len(),
             answer.as_mut_ptr(),

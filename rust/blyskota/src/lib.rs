@@ -10,6 +10,7 @@
 //!
 //! `examples/search.rs` is a whole program of this kind. Beside the search there are:
 //!
+//! - [`outcomes`], which lists all the ways in which a program can end; `examples/outcomes.rs` prints them;
 //! - [`Program::read`], which reads a program file, and [`Program::instructions`] and
 //!   [`Program::conditions`], which say what is in it; printed, they look as in a listing;
 //! - [`Machine::step`], one step, [`Machine::certify`], which shows how a thread can keep its promises,
@@ -22,6 +23,7 @@
 pub mod calls;
 mod instruction;
 mod machine;
+mod outcomes;
 mod program;
 mod refusal;
 mod replay;
@@ -30,6 +32,7 @@ mod search;
 
 pub use instruction::{Fence, Instruction, LoadMode, Operand, Operation, StoreMode};
 pub use machine::{Machine, Message, Thread};
+pub use outcomes::{outcomes, outcomes_within, Outcome, Outcomes};
 pub use program::{Condition, Program};
 pub use refusal::{Refused, Why};
 pub use replay::{replay, File, ReplayRefused, Replayed};

@@ -9,7 +9,7 @@ pub struct Why(pub u8);
 
 impl Why {
     /// What the number means: 1 to 10 of a program file, 1 and 2 also of a trace file, 20 to 29 of a
-    /// step, 30 of a search.
+    /// step, 30 of a search, 40 of a listing of outcomes.
     pub fn meaning(self) -> &'static str {
         match self.0 {
             1 => "the input ends before or inside a record that is needed",
@@ -33,6 +33,7 @@ impl Why {
             28 => "a view that the store has to come after is not below its time",
             29 => "alone, the thread could not keep its promises after the step",
             30 => "the lent trace area is shorter than 480 bytes",
+            40 => "there are more outcomes than the lent table has entries",
             _ => "no refusal has this number",
         }
     }

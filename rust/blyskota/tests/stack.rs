@@ -1,9 +1,9 @@
-//! The deepest calls on small stacks: a search calls itself once for each step of a sequence, a
-//! certification once for each instruction of its thread.
+//! The deepest calls on small stacks: a search and a listing call themselves once for each step of a
+//! sequence, a certification once for each instruction of its thread.
 
-use blyskota::{search_within, Answer, Machine, Program, Step, TABLE};
+use blyskota::{outcomes_within, search_within, Answer, Machine, Outcomes, Program, Step, TABLE};
 
-/// Bytes of stack that every search finds enough.
+/// Bytes of stack that every search and every listing finds enough.
 const SEARCH: usize = 160 * 1024;
 /// Bytes of stack that every certification finds enough.
 const CERTIFICATION: usize = 40 * 1024;
@@ -52,6 +52,14 @@ fn many_sequences_of_eighty_steps() {
     for table in [0, TABLE] {
         let answer = on_a_small_stack(longest(2), table);
         assert_eq!(answer, Answer::NotFinished { count: 100_000 }, "table of {table} bytes");
+    }
+}
+
+#[test]
+fn many_sequences_listed() {
+    for table in [0, TABLE] {
+        let listed = on_a_stack(SEARCH, move || outcomes_within(&longest(1), 100_000, 10, &mut vec![0; table]));
+        assert_eq!(listed.expect("a good file"), Outcomes::NotFinished { budget: 100_000 }, "table of {table} bytes");
     }
 }
 

@@ -1,8 +1,8 @@
 //! The wrapper's calls on an empty program and on one of two threads, and its errors in words.
 
 use blyskota::{
-    replay, search, search_within, trace_file, Answer, File, Machine, Message, Program, Refused,
-    ReplayRefused, RunStep, Step, Why,
+    outcomes, outcomes_within, replay, search, search_within, trace_file, Answer, Condition, File, Machine,
+    Message, Outcome, Outcomes, Program, Refused, ReplayRefused, RunStep, Step, Why,
 };
 
 const EMPTY: &[u8] = &[0x50, 0x47, 1, 1, 0x54, 0x48, 0, 0, 0x51, 0x55, 0];
@@ -59,6 +59,65 @@ fn a_refused_search_leaves_the_table() {
     let refused = Err(Refused { why: Why(1), place: 4 });
     assert_eq!(search_within(&EMPTY[..4], u64::MAX, &mut table), refused);
     assert_eq!(table, vec![0xFF; 1_000]);
+}
+
+/// The outcome of the example with this value read, and the place of its first sequence.
+fn read(value: u8, place: u64) -> Outcome {
+    let (mut registers, mut locations) = ([[0; 8]; 4], [0; 16]);
+    (registers[1][0], locations[0]) = (value, 1);
+    Outcome { registers, locations, place }
+}
+
+fn both() -> Outcomes {
+    Outcomes::Finished { sequences: 12, outcomes: vec![read(0, 4), read(1, 5)] }
+}
+
+#[test]
+fn listings() {
+    let nothing = Outcome { registers: [[0; 8]; 4], locations: [0; 16], place: 1 };
+    assert_eq!(outcomes(EMPTY, 1, 1), Ok(Outcomes::Finished { sequences: 1, outcomes: vec![nothing] }));
+    assert_eq!(outcomes(EMPTY, 0, 1), Ok(Outcomes::NotFinished { budget: 0 }));
+    assert_eq!(outcomes(EMPTY, 1, 0), Ok(Outcomes::TooMany { sequences: 1 }));
+    for most in [2, 3, 1_000] {
+        assert_eq!(outcomes(&e(1), 12, most), Ok(both()), "{most}");
+        assert_eq!(outcomes(&e(1), u64::MAX, most), Ok(both()), "{most}");
+        assert_eq!(outcomes(&e(1), 11, most), Ok(Outcomes::NotFinished { budget: 11 }), "{most}");
+    }
+    assert_eq!(outcomes(&e(1), 12, 1), Ok(Outcomes::TooMany { sequences: 12 }));
+    assert_eq!(outcomes(&e(1), 11, 1), Ok(Outcomes::NotFinished { budget: 11 }));
+    assert_eq!(outcomes(&EMPTY[..4], 0, 0), Err(Refused { why: Why(1), place: 4 }));
+}
+
+/// Tables of any length and content are all 0 afterwards, but for a refused file.
+#[test]
+fn listings_within_a_table() {
+    for length in [0, 1, 1_000, 100_000] {
+        let mut table = vec![0xFF; length];
+        let mut left = |file: &[u8], budget, most| {
+            table.fill(0xFF);
+            (outcomes_within(file, budget, most, &mut table), table.clone())
+        };
+        assert_eq!(left(&e(1), u64::MAX, 2), (Ok(both()), vec![0; length]));
+        assert_eq!(left(&e(1), 11, 2), (Ok(Outcomes::NotFinished { budget: 11 }), vec![0; length]));
+        assert_eq!(left(&e(1), 12, 1), (Ok(Outcomes::TooMany { sequences: 12 }), vec![0; length]));
+        assert_eq!(left(&[], 12, 1), (Err(Refused { why: Why(1), place: 0 }), vec![0xFF; length]));
+    }
+}
+
+/// A search finds the first of the outcomes that meet its question.
+#[test]
+fn outcomes_that_meet_a_question() {
+    let [zero, one] = [read(0, 4), read(1, 5)];
+    for value in [0, 1, 2] {
+        let program = Program::read(&e(value)).expect("a good file");
+        let conditions = program.conditions().expect("a question");
+        let asked = |outcome: &Outcome| conditions.iter().all(|condition| outcome.meets(condition));
+        assert_eq!([asked(&zero), asked(&one)], [value == 0, value == 1]);
+    }
+    assert!(one.meets(&Condition::Location { location: 0, value: 1 }));
+    assert!(!one.meets(&Condition::Location { location: 16, value: 0 }));
+    assert!(!one.meets(&Condition::Register { thread: 4, register: 0, value: 0 }));
+    assert!(!one.meets(&Condition::Register { thread: 0, register: 8, value: 0 }));
 }
 
 #[test]
@@ -166,7 +225,7 @@ fn refused_replays_in_words() {
 #[test]
 fn every_refusal_has_a_meaning() {
     for number in 0..=255 {
-        let known = matches!(number, 1..=10 | 20..=30);
+        let known = matches!(number, 1..=10 | 20..=30 | 40);
         assert_eq!(Why(number).meaning() != "no refusal has this number", known, "{number}");
     }
 }

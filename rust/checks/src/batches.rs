@@ -15,11 +15,17 @@ use crate::{Call, Left, Side, Table};
 
 /// How often each refusal number was the answer, 0 being none, and each verdict of a search; and the runs of
 /// certifications.
-#[derive(Default, Debug)]
+#[derive(Debug)]
 pub struct Tally {
-    pub refusals: [u32; 31],
+    pub refusals: [u32; 41],
     pub verdicts: [u32; 4],
     pub runs: Runs,
+}
+
+impl Default for Tally {
+    fn default() -> Tally {
+        Tally { refusals: [0; 41], verdicts: [0; 4], runs: Runs::default() }
+    }
 }
 
 impl Tally {
@@ -74,18 +80,30 @@ pub fn compare(
     let mut tally = Tally::default();
     for number in 0..calls {
         let call = make(&mut random);
-        let room = room(&mut random, call.answer_length());
-        let [left, other] = sides.map(|side| call.ask(side, room));
-        if left != other {
-            return Err(format!("{name} {number}: {call:?}\nroom {room}\n{left:?}\n{other:?}"));
-        }
+        let left =
+            left_by_both(sides, &call, &mut random).map_err(|other| format!("{name} {number}: {other}"))?;
         tally.add(&call, &left);
-        if (number + 1) % (calls / 10).max(1) == 0 {
-            // Written past the test harness, which would hold a print back to the end.
-            let _ = writeln!(std::io::stderr(), "{name}: {} of {calls} the same", number + 1);
-        }
+        say_progress(name, number + 1, calls);
     }
     Ok(tally)
+}
+
+/// What both sides leave, or how they differ; the answer area is now and then too short.
+pub(crate) fn left_by_both(sides: [&dyn Side; 2], call: &Call, random: &mut Random) -> Result<Left, String> {
+    let room = room(random, call.answer_length());
+    let [left, other] = sides.map(|side| call.ask(side, room));
+    if left != other {
+        return Err(format!("{call:?}\nroom {room}\n{left:?}\n{other:?}"));
+    }
+    Ok(left)
+}
+
+/// A line for each tenth of what is compared.
+pub(crate) fn say_progress(name: &str, done: u32, all: u32) {
+    if done % (all / 10).max(1) == 0 {
+        // Written past the test harness, which would hold a print back to the end.
+        let _ = writeln!(std::io::stderr(), "{name}: {done} of {all} the same");
+    }
 }
 
 /// Mostly room and a little more, now and then too little.
@@ -234,7 +252,7 @@ fn budget_about(random: &mut Random, found: &Found) -> u64 {
 }
 
 /// A table of any length and content.
-fn any_table(random: &mut Random, program: &Program) -> Table {
+pub(crate) fn any_table(random: &mut Random, program: &Program) -> Table {
     let length = match random.below(8) {
         0 => random.pick(&[0, 1]),
         1 => random.index(340),

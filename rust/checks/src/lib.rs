@@ -2,101 +2,15 @@
 //! and the twin, which was written from the buyer's scope paper without a look at the proved code.
 
 pub mod batches;
+pub mod listings;
+mod sides;
 mod table;
 
+pub use sides::{Library, Side, Twin};
 pub use table::Table;
 
 use twin::calls as twin_calls;
 use twin::step::Step;
-
-/// Something that answers the six calls.
-pub trait Side {
-    fn read(&self, file: &[u8], answer: &mut [u8]) -> u32;
-    fn step(&self, program: &[u8], machine: &[u8], step: Step, answer: &mut [u8]) -> u32;
-    fn certify(&self, program: &[u8], machine: &[u8], thread: u8, answer: &mut [u8]) -> u32;
-    fn replay(&self, file: &[u8], trace: &[u8], answer: &mut [u8]) -> u32;
-    fn search(&self, file: &[u8], budget: u32, area: &mut [u8], answer: &mut [u8]) -> u32;
-    fn search_within(
-        &self,
-        file: &[u8],
-        budget: u64,
-        area: &mut [u8],
-        table: &mut [u8],
-        answer: &mut [u8],
-    ) -> u32;
-}
-
-/// The rules in Rust.
-pub struct Twin;
-
-impl Side for Twin {
-    fn read(&self, file: &[u8], answer: &mut [u8]) -> u32 {
-        twin_calls::read(file, answer)
-    }
-
-    fn step(&self, program: &[u8], machine: &[u8], step: Step, answer: &mut [u8]) -> u32 {
-        twin_calls::step(program, machine, step, answer)
-    }
-
-    fn certify(&self, program: &[u8], machine: &[u8], thread: u8, answer: &mut [u8]) -> u32 {
-        twin_calls::certify(program, machine, thread, answer)
-    }
-
-    fn replay(&self, file: &[u8], trace: &[u8], answer: &mut [u8]) -> u32 {
-        twin_calls::replay(file, trace, answer)
-    }
-
-    fn search(&self, file: &[u8], budget: u32, area: &mut [u8], answer: &mut [u8]) -> u32 {
-        twin_calls::search(file, budget, area, answer)
-    }
-
-    fn search_within(
-        &self,
-        file: &[u8],
-        budget: u64,
-        area: &mut [u8],
-        table: &mut [u8],
-        answer: &mut [u8],
-    ) -> u32 {
-        twin_calls::search_within(file, budget, area, table, answer)
-    }
-}
-
-/// The proved code behind the C calls.
-pub struct Library;
-
-impl Side for Library {
-    fn read(&self, file: &[u8], answer: &mut [u8]) -> u32 {
-        blyskota::calls::read(file, answer)
-    }
-
-    fn step(&self, program: &[u8], machine: &[u8], step: Step, answer: &mut [u8]) -> u32 {
-        blyskota::calls::step(program, machine, [step.kind, step.thread, step.a, step.b], answer)
-    }
-
-    fn certify(&self, program: &[u8], machine: &[u8], thread: u8, answer: &mut [u8]) -> u32 {
-        blyskota::calls::certify(program, machine, thread, answer)
-    }
-
-    fn replay(&self, file: &[u8], trace: &[u8], answer: &mut [u8]) -> u32 {
-        blyskota::calls::replay(file, trace, answer)
-    }
-
-    fn search(&self, file: &[u8], budget: u32, area: &mut [u8], answer: &mut [u8]) -> u32 {
-        blyskota::calls::search(file, budget, area, answer)
-    }
-
-    fn search_within(
-        &self,
-        file: &[u8],
-        budget: u64,
-        area: &mut [u8],
-        table: &mut [u8],
-        answer: &mut [u8],
-    ) -> u32 {
-        blyskota::calls::search_within(file, budget, area, table, answer)
-    }
-}
 
 /// One call with all its arguments; areas are given by their lengths, a table by what it holds.
 #[derive(Clone, Debug)]
@@ -107,9 +21,12 @@ pub enum Call {
     Replay { file: Vec<u8>, trace: Vec<u8> },
     Search { file: Vec<u8>, budget: u32, area: usize },
     SearchWithin { file: Vec<u8>, budget: u64, area: usize, table: Table },
+    Outcomes { file: Vec<u8>, budget: u32, area: usize },
+    OutcomesWithin { file: Vec<u8>, budget: u64, area: usize, table: Table },
 }
 
-/// All that a call leaves: its code, the answer area, the lent trace area and the lent table.
+/// All that a call leaves: its code, the answer area, the area lent for a trace or for outcomes, and the
+/// lent table of known machines.
 #[derive(Clone, PartialEq, Eq, Debug)]
 pub struct Left {
     pub code: u32,
@@ -131,13 +48,14 @@ impl Call {
             Call::Replay { .. } => twin_calls::REPLAY_ANSWER,
             Call::Search { .. } => twin_calls::SEARCH_ANSWER,
             Call::SearchWithin { .. } => twin_calls::SEARCH_WITHIN_ANSWER,
+            Call::Outcomes { .. } => twin_calls::OUTCOMES_ANSWER,
+            Call::OutcomesWithin { .. } => twin_calls::OUTCOMES_WITHIN_ANSWER,
         }
     }
 
     /// Asks a side, with an answer area of this length.
     pub fn ask(&self, side: &dyn Side, room: usize) -> Left {
-        let mut answer = vec![BEFORE; room];
-        let (mut area, mut table) = (Vec::new(), Table::default());
+        let (mut answer, mut area, mut table) = (vec![BEFORE; room], self.area(), self.table());
         let code = match self {
             Call::Read { file } => side.read(file, &mut answer),
             Call::Step { program, machine, step } => side.step(program, machine, *step, &mut answer),
@@ -145,27 +63,56 @@ impl Call {
                 side.certify(program, machine, *thread, &mut answer)
             }
             Call::Replay { file, trace } => side.replay(file, trace, &mut answer),
-            Call::Search { file, budget, area: length } => {
-                area = vec![BEFORE; *length];
-                side.search(file, *budget, &mut area, &mut answer)
-            }
-            Call::SearchWithin { file, budget, area: length, table: lent } => {
-                area = vec![BEFORE; *length];
-                table = lent.clone();
+            Call::Search { file, budget, .. } => side.search(file, *budget, &mut area, &mut answer),
+            Call::SearchWithin { file, budget, .. } => {
                 side.search_within(file, *budget, &mut area, &mut table.0, &mut answer)
+            }
+            Call::Outcomes { file, budget, .. } => side.outcomes(file, *budget, &mut area, &mut answer),
+            Call::OutcomesWithin { file, budget, .. } => {
+                side.outcomes_within(file, *budget, &mut area, &mut table.0, &mut answer)
             }
         };
         Left { code, answer, area, table }
     }
 
-    /// The refusal number in the answer of a served call.
-    pub fn refusal(&self, left: &Left) -> Option<u8> {
-        (left.code == 0).then(|| left.answer[usize::from(self.searches())])
+    /// The lent area for a trace or for outcomes, before the call.
+    fn area(&self) -> Vec<u8> {
+        match self {
+            Call::Search { area, .. }
+            | Call::SearchWithin { area, .. }
+            | Call::Outcomes { area, .. }
+            | Call::OutcomesWithin { area, .. } => vec![BEFORE; *area],
+            _ => Vec::new(),
+        }
     }
 
-    /// The verdict in the answer of a served search.
+    /// The lent table of known machines, before the call.
+    fn table(&self) -> Table {
+        match self {
+            Call::SearchWithin { table, .. } | Call::OutcomesWithin { table, .. } => table.clone(),
+            _ => Table::default(),
+        }
+    }
+
+    /// The refusal number in the answer of a served call.
+    pub fn refusal(&self, left: &Left) -> Option<u8> {
+        (left.code == 0).then(|| left.answer[usize::from(self.says_verdict())])
+    }
+
+    /// The verdict in the answer of a served search or listing.
     pub fn verdict(&self, left: &Left) -> Option<u8> {
-        (left.code == 0 && self.searches()).then(|| left.answer[0])
+        (left.code == 0 && self.says_verdict()).then(|| left.answer[0])
+    }
+
+    /// The number of outcomes in the answer of a served listing.
+    pub fn outcomes(&self, left: &Left) -> Option<u32> {
+        let at = match self {
+            Call::Outcomes { .. } => 12,
+            Call::OutcomesWithin { .. } => 8,
+            _ => return None,
+        };
+        let bytes = left.answer.get(at..at + 4)?.try_into().expect("four bytes");
+        (left.code == 0).then_some(u32::from_le_bytes(bytes))
     }
 
     /// The run in the answer of a served certification that says yes: kind and time of each step.
@@ -175,8 +122,14 @@ impl Call {
         yes.then(|| (0..left.answer[2].into()).map(step).collect())
     }
 
-    /// A search's answer begins with the verdict, any other with the refusal number.
-    fn searches(&self) -> bool {
-        matches!(self, Call::Search { .. } | Call::SearchWithin { .. })
+    /// The answer of a search or listing begins with the verdict, any other with the refusal number.
+    fn says_verdict(&self) -> bool {
+        matches!(
+            self,
+            Call::Search { .. }
+                | Call::SearchWithin { .. }
+                | Call::Outcomes { .. }
+                | Call::OutcomesWithin { .. }
+        )
     }
 }

@@ -1,6 +1,7 @@
 //! The library against the twin. `cargo test --offline --release -p checks`
 
 use checks::batches::{self, compare, Tally};
+use checks::listings::compare_listings;
 use checks::{Call, Library, Side, Table, Twin};
 use twin::arbitrary::{computations, file, Random};
 use twin::bytes::{machine_bytes, program_bytes};
@@ -214,6 +215,25 @@ impl Side for Wrong {
         }
         code
     }
+
+    fn outcomes(&self, file: &[u8], budget: u32, table: &mut [u8], answer: &mut [u8]) -> u32 {
+        let code = Twin.outcomes(file, budget, table, answer);
+        if let (0, [.., last]) = (code, table) {
+            *last = 0;
+        }
+        code
+    }
+
+    fn outcomes_within(
+        &self,
+        file: &[u8],
+        budget: u64,
+        outcomes: &mut [u8],
+        table: &mut [u8],
+        answer: &mut [u8],
+    ) -> u32 {
+        Twin.outcomes_within(file, budget, outcomes, table, answer)
+    }
 }
 
 #[test]
@@ -223,5 +243,6 @@ fn a_wrong_byte_is_noticed() {
     assert!(compare("wrong search", [&Wrong, &Twin], 100, 105, batches::search).is_err());
     assert!(compare("wrong table", [&Wrong, &Twin], 100, 106, batches::search_within).is_err());
     assert!(compare("wrong certify", [&Wrong, &Twin], 1_000, 104, batches::certify).is_err());
+    assert!(compare_listings([&Wrong, &Twin], 20, 107).is_err());
     assert!(compare("right replay", [&Wrong, &Twin], 100, 102, batches::replay).is_ok());
 }

@@ -1,6 +1,12 @@
-//! The six calls on byte slices, as the C library has them: each gives 0, 1 where the answer area
+//! The eight calls on byte slices, as the C library has them: each gives 0, 1 where the answer area
 //! is shorter than the answer, or 2 where a value has another length than stated (1 before 2). On 1
 //! and 2 nothing is written; otherwise exactly the answer's bytes. Numbers are little endian.
+
+mod outcomes;
+
+pub use outcomes::{
+    outcomes, outcomes_within, OUTCOMES_ANSWER, OUTCOMES_WITHIN_ANSWER, OUTCOME_ENTRY, OUTCOME_WITHIN_ENTRY,
+};
 
 use crate::bytes::{
     machine_bytes, machine_from, program_bytes, program_from, run_step_bytes, step_bytes, MACHINE, PROGRAM,

@@ -2,7 +2,8 @@
 //! without a look at the proved code. The two share no line and no idea, so where they agree byte for
 //! byte, a mistake would have to be made twice.
 //!
-//! Data flows one way: bytes, program, rules, certification, step, replay and search, answers.
+//! Data flows one way: bytes, program, rules, certification, step, replay and the walk over sequences,
+//! search and listing, answers.
 
 pub mod arbitrary;
 pub mod bytes;
@@ -13,9 +14,11 @@ pub mod known;
 pub mod literal;
 pub mod litmus;
 pub mod machine;
+pub mod outcomes;
 pub mod program;
 pub mod replay;
 pub mod rules;
 pub mod search;
+pub mod sequences;
 pub mod step;
 pub mod worst;

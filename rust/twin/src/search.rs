@@ -1,16 +1,10 @@
-//! The quick search: the order and the counts of the literal one. It tries only times that the
-//! rules allow and only promises that a run could store, certifies only where a promise is
-//! outstanding, and changes one machine in place. It comes in two forms with the same answers: the
+//! The search for a sequence that ends as asked. It comes in two forms with the same answers: the
 //! plain one visits every sequence, the other none from a machine that it has left before.
 
-use std::ops::ControlFlow;
-
-use crate::candidates::{possible_stores, Plan};
-use crate::certify::{promisable, quickly};
 use crate::known::{Known, Nothing, Table};
-use crate::machine::{holds, Machine, Memory, Thread};
+use crate::machine::holds;
 use crate::program::Program;
-use crate::rules::{local, Instr, Load, Store};
+use crate::sequences::{walk, End};
 use crate::step::Step;
 
 /// What a search can say of a question.
@@ -29,23 +23,6 @@ pub struct Found {
     pub trace: Vec<Step>,
 }
 
-/// No sequence is longer than the instructions and the stores of a program: 64 and 16.
-const LONGEST: usize = 80;
-
-/// Where more promises than this look possible, it pays to walk all runs and see which are.
-const MANY: u32 = 16;
-
-struct Search<'a, K> {
-    program: &'a Program,
-    plans: &'a [Plan],
-    known: K,
-    machine: Machine,
-    /// What is left of the budget.
-    left: u64,
-    trace: [Step; LONGEST],
-    length: usize,
-}
-
 /// The answer of the search on a program, with its trace if allowed; every sequence is visited.
 pub fn search(program: &Program, budget: u64) -> Found {
     search_with(Nothing, program, budget)
@@ -58,176 +35,11 @@ pub fn search_known(program: &Program, budget: u64) -> Found {
 }
 
 fn search_with<K: Known>(known: K, program: &Program, budget: u64) -> Found {
-    let plans: Vec<Plan> = program.code[..program.threads as usize].iter().map(Plan::new).collect();
-    let mut search = Search {
-        program,
-        plans: &plans,
-        known,
-        machine: Machine::default(),
-        left: budget,
-        trace: [Step::default(); LONGEST],
-        length: 0,
+    let walked = walk(program, budget, known, |machine, _| holds(program, machine));
+    let (verdict, trace) = match walked.end {
+        End::Enough => (Verdict::Allowed, walked.trace),
+        End::Visited => (Verdict::Forbidden, Vec::new()),
+        End::Spent => (Verdict::NotFinished, Vec::new()),
     };
-    let verdict = match search.visit() {
-        ControlFlow::Continue(()) => Verdict::Forbidden,
-        ControlFlow::Break(verdict) => verdict,
-    };
-    let length = if verdict == Verdict::Allowed { search.length } else { 0 };
-    Found { verdict, count: budget - search.left, trace: search.trace[..length].to_vec() }
-}
-
-impl<'a, K: Known> Search<'a, K> {
-    /// Spends the budget on all sequences that begin at the machine, unless one of them is wanted.
-    fn visit(&mut self) -> ControlFlow<Verdict> {
-        if let Some(sequences) = self.known.sequences(&self.machine) {
-            return self.spend(sequences);
-        }
-        let before = self.left;
-        self.spend(1)?;
-        let mut complete = true;
-        for number in 0..self.plans.len() {
-            let thread = &self.machine.thread[number];
-            complete &= thread.position == self.plans[number].count() && thread.promises == 0;
-        }
-        if complete {
-            return self.completed();
-        }
-        for number in 0..self.plans.len() {
-            self.executions(number)?;
-            self.promises(number)?;
-        }
-        self.known.learn(&self.machine, before - self.left);
-        ControlFlow::Continue(())
-    }
-
-    /// A sequence takes one off the budget: too few left are spent all the same.
-    #[inline]
-    fn spend(&mut self, sequences: u64) -> ControlFlow<Verdict> {
-        if sequences > self.left {
-            self.left = 0;
-            return ControlFlow::Break(Verdict::NotFinished);
-        }
-        self.left -= sequences;
-        ControlFlow::Continue(())
-    }
-
-    /// A complete sequence has no extension.
-    fn completed(&self) -> ControlFlow<Verdict> {
-        if holds(self.program, &self.machine) {
-            ControlFlow::Break(Verdict::Allowed)
-        } else {
-            ControlFlow::Continue(())
-        }
-    }
-
-    /// The executions of a thread, the earliest time first.
-    #[inline]
-    fn executions(&mut self, number: usize) -> ControlFlow<Verdict> {
-        let thread = self.machine.thread[number];
-        let plan: &'a Plan = &self.plans[number];
-        if thread.position == plan.count() {
-            return ControlFlow::Continue(());
-        }
-        match plan.instr(thread.position) {
-            Instr::Load { mode, into, left, right } => {
-                let load = Load::of(&thread, mode, into, left, right);
-                let times = load.times(&thread, &self.machine.memory);
-                self.each_time(number, times, |next, memory, time| load.done(next, memory, time))
-            }
-            Instr::Store { release, address, data } => {
-                let store = Store::of(&thread, release, address, data);
-                let times = store.times(&thread, &self.machine.memory);
-                self.each_time(number, times, |next, _, time| store.done(next, time))
-            }
-            // What accesses no memory has time 0 only.
-            instr => self.each_time(number, 1, |next, _, _| local(&instr, next)),
-        }
-    }
-
-    /// Executes at each of the times that pass, bit t for time t.
-    #[inline]
-    fn each_time(
-        &mut self,
-        number: usize,
-        mut times: u32,
-        done: impl Fn(&mut Thread, &Memory, u8),
-    ) -> ControlFlow<Verdict> {
-        let thread = self.machine.thread[number];
-        while times != 0 {
-            let time = times.trailing_zeros() as u8;
-            times &= times - 1;
-            let mut next = thread;
-            done(&mut next, &self.machine.memory, time);
-            self.executed(number, &thread, &next, time)?;
-        }
-        ControlFlow::Continue(())
-    }
-
-    /// Goes on from an executed instruction if the thread is certified, and takes it back.
-    #[inline]
-    fn executed(&mut self, number: usize, before: &Thread, next: &Thread, time: u8) -> ControlFlow<Verdict> {
-        if !quickly(&self.plans[number], number as u8, next, &mut self.machine.memory) {
-            return ControlFlow::Continue(());
-        }
-        self.machine.thread[number] = *next;
-        self.go_on(Step { kind: 0, thread: number as u8, a: time, b: 0 })?;
-        self.machine.thread[number] = *before;
-        ControlFlow::Continue(())
-    }
-
-    /// The promises of a thread, in order: none where every store left is promised already.
-    #[inline]
-    fn promises(&mut self, number: usize) -> ControlFlow<Verdict> {
-        let Thread { position, promises, .. } = self.machine.thread[number];
-        let plan: &'a Plan = &self.plans[number];
-        let spent = promises.count_ones() >= u32::from(plan.stores_left(position));
-        if spent || self.machine.memory.count >= 16 {
-            return ControlFlow::Continue(());
-        }
-        let Some(stores) = plan.constant(position) else {
-            return self.possible_promises(number);
-        };
-        for &(location, value) in stores {
-            self.promise(number, location, value)?;
-        }
-        ControlFlow::Continue(())
-    }
-
-    fn possible_promises(&mut self, number: usize) -> ControlFlow<Verdict> {
-        let (thread, memory) = (&self.machine.thread[number], &mut self.machine.memory);
-        let plan: &'a Plan = &self.plans[number];
-        let mut stores = possible_stores(plan, thread, memory);
-        if stores.count() > MANY {
-            stores = promisable(plan, number as u8, thread, memory);
-        }
-        for location in 0..16 {
-            for value in stores.values[location as usize].iter() {
-                self.promise(number, location, value)?;
-            }
-        }
-        ControlFlow::Continue(())
-    }
-
-    /// Goes on from a promise if the thread is certified on the memory with it, and takes it back.
-    fn promise(&mut self, number: usize, location: u8, value: u8) -> ControlFlow<Verdict> {
-        let before = self.machine.thread[number].promises;
-        let time = self.machine.memory.append(location, value, number as u8);
-        self.machine.thread[number].promise(time);
-        let thread = self.machine.thread[number];
-        if quickly(&self.plans[number], number as u8, &thread, &mut self.machine.memory) {
-            self.go_on(Step { kind: 1, thread: number as u8, a: location, b: value })?;
-        }
-        self.machine.thread[number].promises = before;
-        self.machine.memory.take_back();
-        ControlFlow::Continue(())
-    }
-
-    #[inline]
-    fn go_on(&mut self, step: Step) -> ControlFlow<Verdict> {
-        self.trace[self.length] = step;
-        self.length += 1;
-        self.visit()?;
-        self.length -= 1;
-        ControlFlow::Continue(())
-    }
+    Found { verdict, count: walked.count, trace }
 }

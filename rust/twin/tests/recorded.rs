@@ -100,6 +100,39 @@ fn searches_within() -> Digest {
     digest
 }
 
+/// Lent memory before a listing, so that what is left of it shows.
+const UNWRITTEN: u8 = 0xA5;
+
+/// Listings with room for a few outcomes and for part of one more, and budgets of all sizes.
+fn listings() -> Digest {
+    let (mut random, mut digest) = (Random::new(17), Digest(0));
+    for _ in 0..3_000 {
+        let file = file(&program(&mut random, MIDDLE));
+        let budget = random.pick(&[0, 50, 2_000, 20_000]);
+        let mut table = [UNWRITTEN; 3 * calls::OUTCOME_ENTRY + 1];
+        let mut answer = [0; calls::OUTCOMES_ANSWER];
+        let served = calls::outcomes(&file, budget, &mut table, &mut answer);
+        digest.add(served, &answer);
+        digest.add(0, &table);
+    }
+    digest
+}
+
+fn listings_within() -> Digest {
+    let (mut random, mut digest) = (Random::new(18), Digest(0));
+    for _ in 0..1_000 {
+        let file = file(&program(&mut random, MIDDLE));
+        let budget = random.pick(&[100, 10_000, 1_000_000]);
+        let (mut lent, mut table) = ([UNWRITTEN; 6 * calls::OUTCOME_WITHIN_ENTRY + 1], [UNWRITTEN; 100]);
+        let mut answer = [0; calls::OUTCOMES_WITHIN_ANSWER];
+        let served = calls::outcomes_within(&file, budget, &mut lent, &mut table, &mut answer);
+        digest.add(served, &answer);
+        digest.add(0, &lent);
+        digest.add(0, &table);
+    }
+    digest
+}
+
 /// Values that are often not well formed.
 fn any_values() -> Digest {
     let (mut random, mut digest) = (Random::new(15), Digest(0));
@@ -127,6 +160,8 @@ fn recorded_answers() {
         ("replay", replays()),
         ("search", searches()),
         ("search-within", searches_within()),
+        ("outcomes", listings()),
+        ("outcomes-within", listings_within()),
         ("values", any_values()),
     ];
     lines.extend(whole.iter().map(|(name, digest)| format!("{name} {:016x}", digest.0)));

@@ -2,35 +2,30 @@
 -- Assumes nothing.
 use native.Mathlib.Omega.{arith}
 use borrow.Author.Needs.{needs}
-use Rattle.search_arrivals.specs.Visits.{Arrives}
+use Rattle.search_arrivals.specs.Visits.{Meets}
 use Rattle.search_arrivals.proofs.Turns.{out-of-budget, at-the-end}
 use Rattle.search_arrivals.proofs.Known.{known-told, seen-known}
 use Rattle.search_arrivals.proofs.arrive.Statement.{statement}
 use Rattle.search_arrivals.proofs.arrive.Tie as tie
 
 returns : tie.Need-returns
-unfolding Arrives
-returns c = λ area. out-of-budget _ _ _ _ area (c .if1 .taken)
+unfolding Meets
+returns c = λ n holds. out-of-budget _ _ _ _ _ n (c .if1 .taken)
 
 returns-2 : tie.Need-returns-2
-unfolding Arrives
-returns-2 c = λ area. rw (c .at-end .ensures) (at-the-end _ _ _ _ area (c .before .before .before .if1 .left) _ (c .before .before .next-open .ensures) (c .before .if2 .taken) (c .before .before .before .before .before .pre .0))
+returns-2 c = λ n holds. rw (c .at-end .ensures) (at-the-end _ _ _ _ _ _ n (c .before .before .before .if1 .left) _ (c .before .before .next-open .ensures) (c .before .if2 .taken) (c .before .before .before .before .before .pre))
 
 returns-3 : tie.Need-returns-3
-unfolding Arrives
-returns-3 c = record { some-left = c .before .before .before .if1 .left; next = c .before .before .next-open .ensures; not-ended = c .before .if2 .left; has-slot = λ l. absurd (let h = c .if3 .taken in omega arith) }
+unfolding Meets
+returns-3 c = λ n holds. record { some-left = c .before .before .before .if1 .left; next = c .before .before .next-open .ensures; not-ended = c .before .if2 .left; has-slot = λ l. absurd (let h = c .if3 .taken in omega arith) }
 
 returns-4 : tie.Need-returns-4
-unfolding Arrives
-returns-4 c =
-    let early = c .before .before .before .before .before .before .before .before .before in
-    λ area. rw (c .after-known .ensures) (known-told _ _ _ _ area _ (seen-known (early .pre .0) (early .pre .1) (c .before .before .before .look-up .result) (c .before .before .before .look-up .ensures) (c .before .if4 .taken)))
+unfolding Meets
+returns-4 c = λ n holds. rw (c .after-known .ensures) (known-told _ _ _ _ _ n _ (seen-known (c .before .before .before .before .before .before .before .before .before .pre) holds (c .before .before .before .look-up .result) (c .before .before .before .look-up .ensures) (c .before .if4 .taken)))
 
 returns-5 : tie.Need-returns-5
-unfolding Arrives
-returns-5 c =
-    let early = c .before .before .before .before in
-    record { some-left = early .before .before .if1 .left; next = early .before .next-open .ensures; not-ended = early .if2 .left; has-slot = λ l. c .before .before .look-up .ensures .within }
+unfolding Meets
+returns-5 c = λ n holds. record { some-left = c .before .before .before .before .before .before .if1 .left; next = c .before .before .before .before .before .next-open .ensures; not-ended = c .before .before .before .before .if2 .left; has-slot = λ l. c .before .before .look-up .ensures .within }
 
 pub arrive-spec : {M : Type 1} → statement M
 arrive-spec =

@@ -1,0 +1,12 @@
+pub mod Order
+pub mod Comparing
+pub mod Halving
+pub mod Writing
+pub mod LastValues
+pub mod Ending
+pub mod Rows
+pub mod Cases
+pub mod Noting
+pub mod Laws
+pub mod Holding
+pub mod Tail
