@@ -12,7 +12,7 @@ use lib.ListN.{length, getD, replicate, length-append}
 use Rattle.program.specs.declared.Program.{Program}
 use Rattle.machine.specs.declared.Machine.{Machine}
 use Rattle.theory_sequences.specs.Sequences.{run, upto}
-use Rattle.theory_sequences.specs.Scan.{Scan, found, scan, notedOf, asking, doneAt, Settled, Settling}
+use Rattle.theory_sequences.specs.Scan.{found, notedOf, asking, doneAt, Settled, Settling}
 use Rattle.theory_sequences.proofs.Scan.{scan-found, scan-keeps, done-keeps}
 use Rattle.step.specs.Step.{Step}
 use Rattle.step.specs.Inner.{potential}

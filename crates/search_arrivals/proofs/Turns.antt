@@ -24,13 +24,13 @@ use Rattle.certify_runs.proofs.Ready.{program-facts}
 use Rattle.encode_bytes.specs.Places.{put}
 use Rattle.encode_bytes.proofs.Putting.{put-none}
 use Rattle.theory_sequences.proofs.Scan.{found-short}
-use Rattle.theory_sequences.specs.Scan.{Scan, going, found, out, andThen, under, notedOf, asking}
+use Rattle.theory_sequences.specs.Scan.{Scan, going, found, out, andThen, under, notedOf}
 use Rattle.step.specs.Step.{Step, accepted, rejected, step}
 use Rattle.step.specs.Inner.{Here}
 use Rattle.step.specs.Outcome.{complete, questionHolds, asked, outcome}
 use Rattle.trace_record.specs.Trace.{stepBytes, traceBytes}
 use Rattle.search_sequences.specs.OfProgram.{stepping}
-use Rattle.search_arrivals.specs.Visits.{Ran, Going, Found, Out, Aim, Question, Outcomes, Over, Ending, acts, visiting, trying, atEnd, Reports, Visitable, Meets}
+use Rattle.search_arrivals.specs.Visits.{Ran, Going, Found, Out, Aim, Question, Outcomes, Over, acts, visiting, trying, atEnd, Reports, Visitable, Meets}
 use Rattle.search_outcomes.specs.Table.{Notes, noted}
 use Rattle.search_tries.specs.Steps.{NextOpen, stepNumbered, NextStep}
 use Rattle.search_sequences.proofs.Machine.{lawful}

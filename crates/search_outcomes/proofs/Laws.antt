@@ -77,9 +77,6 @@ module _ (wide : Bool) (o : List ℕ) (rest : ℕ) (n : Notes) where
   pub noted-two : length ((noted wide o rest n) .1) ≡ length (n .1)
   noted-two = noted-sheet (λ (s : List ℕ). length s ≡ length (n .1)) refl (λ m. length-set (n .1) 0 m)
 
-  pub noted-budget : getD ((noted wide o rest n) .1) 1 0 ≡ getD (n .1) 1 0
-  noted-budget = noted-sheet (λ (s : List ℕ). getD s 1 0 ≡ getD (n .1) 1 0) refl (λ m. getD-set-other (n .1) 0 1 m 0 (λ z. omega arith))
-
 -- ---- what stands there once the outcome is entered
 module _ (wide : Bool) (o : List ℕ) (rest : ℕ) (n : Notes) (e : length o ≡ 48) (some : 0 < length (n .1)) (room : metOf n ≤ capacity wide (n .0)) (fits : length (newRows wide o rest n) ≤ capacity wide (n .0)) where
   abbrev after : Notes

@@ -1,3 +1,4 @@
 pub mod InPlace
+pub mod Lent
 pub mod Loops
 pub mod Start

@@ -23,7 +23,7 @@ use Rattle.certify_runs.specs.Inner as certified
 use Rattle.certify_runs.proofs.Ready.{program-facts, machine-facts, ready-here}
 use Rattle.certify_runs.specs.Inner.{Sound}
 use Rattle.encode_bytes.specs.Places.{put}
-use Rattle.theory_sequences.specs.Scan.{Scan, going, found, out, andThen, notedOf}
+use Rattle.theory_sequences.specs.Scan.{Scan, going, found, out, andThen}
 use Rattle.step.specs.Step.{Step, accepted, rejected, step}
 use Rattle.step.specs.declared.StepAnswer.the-variants.{Taken, Refused}
 use Rattle.step.specs.declared.Moved.{Moved}
@@ -41,21 +41,18 @@ use Rattle.search_arrivals.specs.declared.Ran.the-variants.{Going, Found, Out}
 use Rattle.search_arrivals.specs.declared.Aim.{Aim}
 use Rattle.search_arrivals.specs.declared.Aim.the-variants.{Question}
 use Rattle.search_arrivals.specs.Visits.{visiting, trying, Reports, Visitable}
-use Rattle.search_outcomes.specs.Table.{Notes, ending, noted, Orderly}
-use Rattle.machine.specs.Inner.{Formed}
-use Rattle.step.specs.Outcome.{outcome}
-use Rattle.search_outcomes.proofs.Laws.{ending-is}
+use Rattle.search_outcomes.specs.Table.{Notes}
 use Rattle.search_tries.specs.Steps.{NextOpen, stepNumbered, Numbered, NextStep}
 use Rattle.search_tries.specs.declared.Attempts.{Attempts}
 use Rattle.search_tries.specs.declared.Ahead.{Ahead}
 use Rattle.search_tries.specs.Worthwhile.{Worth, Foreseen, Keepable}
 use Rattle.search_tries.proofs.Refused.{sound-here}
 use Rattle.search_tries.proofs.Worth.{keepable}
+use Rattle.search_visits.proofs.Lent.{still-ready}
 use Rattle.search_visits.proofs.InPlace.{set-again, set-back, taken-off}
 use Rattle.search_arrivals.proofs.Turns.{BeforeThread, BeforeStep, begins, all-done, to-next, first-try, thread-done, to-open, refused-on, went-below, out-below, found-below, has-thread, not-ended}
 use Rattle.search_arrivals.proofs.Ranges.{steps-from, threads-from}
-use Rattle.search_arrivals.proofs.Telling.{went-on}
-use Rattle.search_arrivals.proofs.Acting.{visiting-long, visiting-two, visiting-orderly, found-question}
+use Rattle.search_arrivals.proofs.Acting.{found-question}
 
 -- y is x but for thread i, and perhaps the memory
 abbrev Others : Machine → ℕ → Machine → Type 0
@@ -110,30 +107,6 @@ step-thread i k = go (ltb k 17)
     go : (b : Bool) → (cond b (execution i k) (keyPromise i (k - 17))) .thread ≡ i
     go true = refl
     go false = refl
-
--- the lent area and the sheet, each under another name
-pub pair-same : {area area' sheet sheet' : List ℕ} → area ≡ area' → sheet ≡ sheet' → _≡_ {A = Notes} (area, sheet) (area', sheet')
-pair-same e f j = (e j, f j)
-
--- what is written down is the outcome of the machine
-pub ending-noted : (p : Program) (x : Machine) → Formed p x → (wide : Bool) (rest : ℕ) (n : Notes) → noted wide (ending x) rest n ≡ noted wide (outcome p x) rest n
-ending-noted p x o wide rest n = ap (λ (k : List ℕ). noted wide k rest n) (sym (ending-is p x o))
-
--- after a visit that goes on, what was asked before it may be asked again
-still-ready : {p : Program} {a : Aim} {x : Machine} {d : ℕ} {n : Notes} → Visitable p a x d n → (y : Machine) (b e rest : ℕ) (r : Ran) (mid : Notes) → Reports e (visiting p a y b n) r mid → r ≡ Going rest
-    → Visitable p a x d mid × (length (mid .0) ≡ length (n .0))
-still-ready {p} {a} {x} {d} {n} o y b e rest r mid t g =
-    let same : notedOf (visiting p a y b n) ≡ mid = ap (λ (s : Scan Step Notes). notedOf s) (went-on (visiting p a y b n) t rest g) in
-    let long : length (mid .0) ≡ length (n .0) = ap (λ (m : Notes). length (m .0)) (sym same) ∙ visiting-long p a y b n in (
-      record {
-        well = o .well;
-        short = o .short;
-        two = ap (λ (m : Notes). length (m .1)) (sym same) ∙ visiting-two p a y b n ∙ o .two;
-        room = λ q. let l = o .room q in omega arith;
-        orderly = λ wide q. subst (Orderly wide) same (visiting-orderly p a y b n (o .orderly) wide q);
-      },
-      long,
-    )
 
 module _ {p : Program} {a : Aim} {x : Machine} {d left : ℕ} {old : Notes} where
   pub enters : Visitable p a x d old → (left ≡ 0 → ⊥) → (i : ℕ) → NextOpen p x 0 i → (i ≡ 4 → ⊥) → length (p .codes) ≡ 4 → length (x .threads) ≡ 4

@@ -3,7 +3,7 @@
 use mathlib.Core.Path.{_≡_, refl, ap, sym, _∙_, subst}
 use mathlib.Core.Bool.{Bool, true, false, true≢false}
 use mathlib.Core.Logic.{_⊎_, inl, inr, ⊎-elim}
-use mathlib.Core.List.{List, [], _∷_, _++_, map}
+use mathlib.Core.List.{List, [], _∷_, _++_}
 use Prim.Native.Nat.{ℕ, zero, suc, _≤_, _<_}
 use native.Mathlib.Omega.{arith}
 use lib.ListN.{length, getD, take, drop}
@@ -195,16 +195,3 @@ module _ {A : Type 0} (before : A → A → Bool) where
         go (ahead e) rec = rw (entered-ahead a c l e) (over e, s)
         go (past e f) rec = rw (entered-past a c l e f) (λ x i. ⊎-elim (λ j. ap (before c) j ∙ f) (λ j. s .0 x j) (entered-among x a l i), rec)
         go (alike e f) rec = rw (entered-alike a c l e f) s
-
--- an image that keeps the order: to enter the image among the images is to enter and then take the images
-pub entered-map : {A B : Type 0} (before : A → A → Bool) (before' : B → B → Bool) (f : A → B) → ((x y : A) → before' (f x) (f y) ≡ before x y)
-    → (a : A) (l : List A) → entered before' (f a) (map f l) ≡ map f (entered before a l)
-entered-map before before' f same a [] = rw (entered-first before a) (entered-first before' (f a))
-entered-map {A} {B} before before' f same a (c ∷ l) = go (stands before a c) (entered-map before before' f same a l)
-  where
-    go : Stands before a c → entered before' (f a) (map f l) ≡ map f (entered before a l) → entered before' (f a) (f c ∷ map f l) ≡ map f (entered before a (c ∷ l))
-    go (ahead e) rec = rw (entered-ahead before a c l e) (entered-ahead before' (f a) (f c) (map f l) (same a c ∙ e))
-    go (past e g) rec =
-        rw (entered-past before a c l e g)
-        (entered-past before' (f a) (f c) (map f l) (same a c ∙ e) (same c a ∙ g) ∙ ap (λ (x : List B). f c ∷ x) rec)
-    go (alike e g) rec = rw (entered-alike before a c l e g) (entered-alike before' (f a) (f c) (map f l) (same a c ∙ e) (same c a ∙ g))

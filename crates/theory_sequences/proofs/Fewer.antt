@@ -1,6 +1,5 @@
 -- Trying fewer steps: a depth-first search that tries the steps `few s` of a state s, each once, and computes what the search over all steps does.
 use mathlib.Core.Path.{_≡_, refl, ap, sym, _∙_, subst}
-use mathlib.Core.Bool.{true, false}
 use mathlib.Core.Logic.{inl, inr, ⊎-elim}
 use mathlib.Core.List.{List, [], _∷_, _++_}
 use mathlib.Core.Option.{Option, none, some}

@@ -2,7 +2,7 @@
 -- Assumes nothing.
 use mathlib.Core.Path.{_≡_, refl, ap, sym, _∙_}
 use mathlib.Core.Bool.{Bool, true, false}
-use mathlib.Core.Logic.{_⊎_, inl, inr}
+use mathlib.Core.Logic.{inl, inr}
 use mathlib.Core.List.{List, [], _∷_, _++_, map, append-assoc}
 use mathlib.Core.Option.{Option, none, some, Option·some-injective}
 use Prim.Native.Nat.{ℕ, zero, suc, _+_, _-_, _≤_, _<_}
@@ -149,15 +149,6 @@ module _ (M : Stepping) {N : Type 0} (act : Act M N) where
       go : (o : Option (M .State)) → elim o [ none ↦ some n | some t ↦ act t b n ] ≡ some m → I m
       go none d = let same : n ≡ m = Option·some-injective n m d in rw (← same) i
       go (some t) d = h t b n m i d
-
-  -- where nothing new is met at the states, none is met at the sequences
-  pub done-settled : (s : M .State) (q : List (M .Step)) (n : N) → ((t : M .State) → run M s q ≡ some t → Settled M act n t) → (b : ℕ) → doneAt M act s q b n ≡ some n
-  unfolding doneAt
-  done-settled s q n h b = go (run M s q) (λ t e. h t e)
-    where
-      go : (o : Option (M .State)) → ((t : M .State) → o ≡ some t → Settled M act n t) → elim o [ none ↦ some n | some t ↦ act t b n ] ≡ some n
-      go none i = refl
-      go (some t) i = i t refl b
 
   module _ {Fit : N → Type 0} (S : Settling M act Fit) where
     -- at a sequence that was visited nothing new is met again

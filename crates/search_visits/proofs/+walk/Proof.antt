@@ -1,6 +1,7 @@
 -- `search_visits::walk` meets its contract.
 -- Assumes nothing.
-use Rattle.search_visits.proofs.Loops.{aheadOf, AtThread, AtStep, Promised, enters, code-at, thread-at, thread-ready, next-there, first, joins, ends, leaves, answers, less-than-whole, whole-written, attemptable, attempted, next-asked, next-told, set-others, same-others, on, by-promise, by-none, is-rejected, lower, ready-below, has-newest, off-again, still, goes-on, runs-out, asks, room-here, finds, pair-same, ending-noted}
+use Rattle.search_visits.proofs.Loops.{aheadOf, AtThread, AtStep, Promised, enters, code-at, thread-at, thread-ready, next-there, first, joins, ends, leaves, answers, less-than-whole, whole-written, attemptable, attempted, next-asked, next-told, set-others, same-others, on, by-promise, by-none, is-rejected, lower, ready-below, has-newest, off-again, still, goes-on, runs-out, asks, room-here, finds}
+use Rattle.search_visits.proofs.Lent.{pair-same, ending-noted}
 use Rattle.search_outcomes.proofs.Laws.{formed-placed}
 use Rattle.search_arrivals.specs.Visits.{visiting, Reports}
 use Rattle.search_arrivals.proofs.Known.{Trusted, trusted-as, told-as, is-over, is-ending, is-open, rest-within, still-true, stays-true, question-true}

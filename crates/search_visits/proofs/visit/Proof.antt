@@ -5,7 +5,7 @@ use native.Mathlib.Omega.{arith}
 use borrow.Author.Needs.{needs}
 use Rattle.search_outcomes.proofs.Laws.{formed-placed}
 use Rattle.search_arrivals.proofs.Known.{is-over, is-ending, is-open, stays-true}
-use Rattle.search_visits.proofs.Loops.{ending-noted}
+use Rattle.search_visits.proofs.Lent.{ending-noted}
 use Rattle.search_visits.proofs.visit.Statement.{statement}
 use Rattle.search_visits.proofs.visit.Tie as tie
 
