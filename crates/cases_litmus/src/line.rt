@@ -7,7 +7,7 @@ use search::Verdict;
 use text::{count, number, text};
 
 // What came of a line. Open: not finished, where the published verdict is allowed or forbidden.
-#[derive(Drop)]
+#[derive(Clone, Copy)]
 pub enum Came {
     Agrees,
     Differs,

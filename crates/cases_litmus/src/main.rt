@@ -1,12 +1,13 @@
 // Runs litmus tests, one on each line of standard input, and prints for each its name, verdict and count, and the published
 // verdict beside them; then how many there are.
+#![tactic(auto)]
 mod line;
 
 use cases_rows::{input, line_at};
 use line::{Came, line};
 use text::{count, text};
 
-#[derive(Drop)]
+#[derive(Clone, Copy)]
 pub struct Tally {
     pub tests: usize,
     pub agree: usize,

@@ -1,5 +1,6 @@
 // How long the calls take: each is made many times over, never twice on the same value. A sum of the answers goes to standard output,
 // the processor time to standard error.
+#![tactic(auto)]
 ghost use Rattle.std.specs.Prelude.{◌≡◌, length, pos, ◌≤ℤ◌};
 
 use certify::{Certified, certify};

@@ -1,6 +1,7 @@
 // Reads small program files, and prints for each its name, and the number and the place of its refusal: 0 0 for a good one.
 //
 // A row of standard input has a name and the bytes that come after those of the lines with = and + above it.
+#![tactic(auto)]
 mod changed;
 
 use cases_rows::file::{File, add, none, readable};

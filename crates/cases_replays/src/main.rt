@@ -2,6 +2,7 @@
 // the steps taken; whether the machine is complete, and whether it is so with the asked outcome; the state after the steps.
 //
 // A row of standard input has a name and the bytes of a trace of the program that the lines with = and + above it give.
+#![tactic(auto)]
 mod told;
 
 use cases_rows::file::{File, add, none, readable};

@@ -3,7 +3,7 @@
 
 // The first `len` bytes. Open: the first digit of a byte is read and stands in `high`, as the upper half. Bad: something is no byte,
 // or there is no room.
-#[derive(Drop)]
+#[derive(Clone, Copy)]
 pub struct File {
     pub bytes: [u8; 700],
     pub len: usize,

@@ -1,4 +1,5 @@
 // What the programs that run rows of cases share: where the parts of a row end, the bytes that a row writes out, and states printed.
+#![tactic(auto)]
 pub mod file;
 pub mod row;
 pub mod show;
@@ -24,7 +25,7 @@ pub fn find(s: &[u8], from: usize, b: u8) -> usize
 }
 
 // A line: what stands before its comment, if it has one, ends at `mark`, and the line after it begins at `next`.
-#[derive(Drop)]
+#[derive(Clone, Copy)]
 pub struct Line {
     pub mark: usize,
     pub next: usize,

@@ -7,7 +7,7 @@ use crate::file::{File, add};
 use crate::{find, line_at};
 
 // A row: its name stands before the first space, what it says from there to `mark`, and the line after it begins at `next`.
-#[derive(Drop)]
+#[derive(Clone, Copy)]
 pub struct Row {
     pub file: File,
     pub at: usize,

@@ -2,6 +2,7 @@
 //
 // A row of standard input has a name and commands, which start from the fresh machine of the program that the lines with = and + above
 // it give.
+#![tactic(auto)]
 mod change;
 mod walk;
 

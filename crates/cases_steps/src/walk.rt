@@ -12,14 +12,14 @@ use step::{Stepped, TraceStep, step_refusal};
 use text::{number, text};
 
 // What a row works on.
-#[derive(Drop)]
+#[derive(Clone, Copy)]
 pub struct Setting {
     pub program: Program,
     pub machine: Machine,
 }
 
 // A letter and four numbers.
-#[derive(Drop)]
+#[derive(Clone, Copy)]
 pub struct Command {
     pub letter: u8,
     pub a: u8,

@@ -1,1 +1,2 @@
 // Theory only: programs with known verdicts, proved under the definitions.
+#![tactic(auto)]

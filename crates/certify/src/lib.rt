@@ -1,4 +1,5 @@
 // Certification of one thread: whether it can fulfil all its promises while no other thread runs.
+#![tactic(auto)]
 mod checked;
 pub mod reach;
 
@@ -18,7 +19,7 @@ use reach::{search_runs, two_reached};
 use rules::operands::{address, value_of};
 
 // Whether a thread is certified, or the number of the refusal.
-#[derive(Drop)]
+#[derive(Clone, Copy)]
 pub enum Certified {
     Yes,
     No,
@@ -26,7 +27,7 @@ pub enum Certified {
 }
 
 // The answer, and the first run that shows it; without steps where there is none.
-#[derive(Drop)]
+#[derive(Clone, Copy)]
 pub struct Certification {
     pub answer: Certified,
     pub run: Run,

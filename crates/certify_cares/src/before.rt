@@ -12,7 +12,7 @@ use program::Instruction;
 
 // An instruction that a thread has gone through: what its operands held, and whether the first has a view that is at most the second's, so
 // that it was most likely read earlier.
-#[derive(Drop)]
+#[derive(Clone, Copy)]
 pub struct Step {
     pub instruction: Instruction,
     pub first: u8,
@@ -44,7 +44,7 @@ impl Step {
 }
 
 // The care for an instruction's first operand, and for its second.
-#[derive(Drop)]
+#[derive(Clone, Copy)]
 pub struct Shares {
     pub first: u32,
     pub second: u32,

@@ -1,4 +1,5 @@
 // Messages that are lost: no store that a thread can come to can write them any more, whatever it reads before.
+#![tactic(auto)]
 pub mod ahead;
 pub mod telling;
 pub mod wanted;
@@ -17,7 +18,7 @@ use rules_stores::store_pre;
 use wanted::{Wanted, filling, in_range, out_of_range};
 
 // Whether a loss is certain, and what it rests on.
-#[derive(Drop)]
+#[derive(Clone, Copy)]
 pub struct Loss {
     pub certain: bool,
     pub cares: Cares,

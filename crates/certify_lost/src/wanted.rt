@@ -6,7 +6,7 @@ ghost use Rattle.certify_lost.specs.Lost.{InRange, Filling};
 use certify_cares::barred::marking;
 
 // A message that is wanted of a store: at a time, to a location of a set, of a value from low on and below high.
-#[derive(Drop)]
+#[derive(Clone, Copy)]
 pub struct Wanted {
     pub time: u8,
     pub places: u16,

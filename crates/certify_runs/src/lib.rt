@@ -1,14 +1,15 @@
 // Certification as the rules have it, as a test and as runs: definitions and theorems.
+#![tactic(auto)]
 
 // A step of a run of one thread alone: its next instruction executed at a time (kind 0), or a store with a message of its own at that time (kind 1).
-#[derive(Drop)]
+#[derive(Clone, Copy)]
 pub struct RunStep {
     pub kind: u8,
     pub time: u8,
 }
 
 // The steps of a run, `count` of them; the other entries are 0.
-#[derive(Drop)]
+#[derive(Clone, Copy)]
 pub struct Run {
     pub steps: [RunStep; 16],
     pub count: u8,

@@ -1,4 +1,5 @@
 // What the runs of a thread alone are searched for: numbers met and sought; and what the tries of an instruction rest on.
+#![tactic(auto)]
 pub mod asks;
 pub mod goal;
 mod places;
@@ -8,7 +9,7 @@ ghost use Rattle.certify_sought.specs.Numbers.{Unmet, Seeks, meeting, certifying
 
 // The two least numbers that runs have met; where there are fewer, bounds below which numbers are sought. Where the two are the same, only the
 // least number is sought, and they stay the same.
-#[derive(Drop)]
+#[derive(Clone, Copy)]
 pub struct Met {
     pub least: u16,
     pub second: u16,
@@ -60,7 +61,7 @@ impl Met {
 
 // What runs are searched for: where hole is 0, an empty promise set, which is number 0; else a store that fills the hole at that time. Sought
 // are numbers from `from` on that are below the second of those met and not the least. Where the two are the same, only lesser ones are.
-#[derive(Drop)]
+#[derive(Clone, Copy)]
 pub struct Sought {
     pub hole: u8,
     pub from: u16,

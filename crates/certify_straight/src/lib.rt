@@ -1,5 +1,6 @@
 // The instructions that have one way to go on, taken at once: computes, branches and fences; and what a failure after them rests on before
 // them.
+#![tactic(auto)]
 ghost use Rattle.std.specs.Prelude.{◌≡◌, ◌+◌, ◌%◌, ◌<◌, ◌≤◌, true, false, length, ◌==◌, slice_index_or};
 ghost use Rattle.program.specs.Program.{operand, compute_mode, fence_mode};
 ghost use Rattle.program.specs.Inner.{CodeOk};
@@ -18,7 +19,7 @@ use program::{Code, Instruction};
 
 // Where a thread has come to, and the instructions that it has gone through, in order. Where the last of them is a branch to be looked at both
 // ways, the position to which it leads on the other way, and the register that it would hold fast; else 0.
-#[derive(Drop)]
+#[derive(Clone, Copy)]
 pub struct Walk {
     pub thread: Thread,
     pub steps: [Step; 16],

@@ -16,7 +16,7 @@ use rules::operands::view_of_both;
 use rules_loads::{load_done, load_pre};
 
 // Whether an instruction is known to fail; and then what its search answers.
-#[derive(Drop)]
+#[derive(Clone, Copy)]
 pub struct Blind {
     pub fails: bool,
     pub found: Reached,

@@ -1,4 +1,5 @@
 // What is known after some tries of an instruction, and whether anything can come of another.
+#![tactic(auto)]
 pub mod blind;
 
 ghost use Rattle.std.specs.Prelude.{◌≡◌, true, ◌+◌, ◌≤◌, ◌<◌, ltb, replicate};
@@ -16,7 +17,7 @@ use program::{Code, Instr};
 
 // The two least numbers met; and what it rests on that no other is met that is sought. Where none is sought any more, it rests on nothing; where it is
 // an empty promise set that was sought and met, the words of the cares hold the run that came to it (`certify_trail`).
-#[derive(Drop)]
+#[derive(Clone, Copy)]
 pub struct Reached {
     pub met: Met,
     pub cares: Cares,
@@ -25,7 +26,7 @@ pub struct Reached {
 // After some tries of an instruction: the numbers met; how many tries were made, two for more; what they rest on; for each time at which a load
 // was tried how much of what it left in its register counted, 3 for the others; and whether they are apart: the tries of a load of a location
 // without a message tell of those of all such locations.
-#[derive(Drop)]
+#[derive(Clone, Copy)]
 pub struct Tried {
     pub met: Met,
     pub tries: u8,

@@ -1,4 +1,6 @@
 // The reading of a program file between two records: where it stands, and the start of a record. Each record begins with a mark of two bytes.
+#![tactic(auto)]
+
 ghost use Rattle.std.specs.Prelude.{◌≡◌, ◌≤◌, ◌<◌, length};
 ghost use Rattle.program.specs.Program.{no_instruction, no_code, no_program};
 ghost use Rattle.program.specs.File.{Reading, stopped, reading, marked};
@@ -8,14 +10,14 @@ ghost use Rattle.file_cursor.specs.Cursors.{cursor_of};
 use program::{Code, Condition, Instruction, Program};
 
 // How far the reading has come: the place of the next record and the stores read so far; or a refusal's number and place.
-#[derive(Drop)]
+#[derive(Clone, Copy)]
 pub enum Progress {
     Going(usize, u8),
     Stopped(u8, usize),
 }
 
 // The reading between two records, with the program so far. A stopped one has the program of all 0.
-#[derive(Drop)]
+#[derive(Clone, Copy)]
 pub struct Cursor {
     pub progress: Progress,
     pub program: Program,

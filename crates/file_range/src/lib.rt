@@ -1,4 +1,6 @@
 // The bytes of an instruction and of a condition, tested left to right.
+#![tactic(auto)]
+
 ghost use Rattle.std.specs.Prelude.{◌≡◌, ◌<◌};
 ghost use Rattle.program.specs.WellFormed.{mode_limit, mode_test, register_test, kind_test, number_test, instruction_tests, condition_tests};
 ghost use Rattle.program.specs.Inner.{first_failing, asked_thread_test, index_limit};

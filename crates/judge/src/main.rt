@@ -1,4 +1,5 @@
 // The printing program, `judge [BUDGET] < FILE`: a program file on standard input, its answer on standard output.
+#![tactic(auto)]
 mod answers;
 
 use answers::answer;

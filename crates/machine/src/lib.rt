@@ -1,4 +1,5 @@
 // The machine by value: messages, memory, a thread's state with its views, four threads. Times and views are bytes.
+#![tactic(auto)]
 pub mod answers;
 pub mod machines;
 pub mod merge;
@@ -8,7 +9,7 @@ pub mod threads;
 pub mod times;
 
 // A message of memory: a store of `thread`.
-#[derive(Drop)]
+#[derive(Clone, Copy)]
 pub struct Message {
     pub location: u8,
     pub value: u8,
@@ -16,27 +17,27 @@ pub struct Message {
 }
 
 // The messages at times 1, 2, .. `count`; the other entries are 0.
-#[derive(Drop)]
+#[derive(Clone, Copy)]
 pub struct Memory {
     pub messages: [Message; 16],
     pub count: u8,
 }
 
-#[derive(Drop)]
+#[derive(Clone, Copy)]
 pub struct Register {
     pub value: u8,
     pub view: u8,
 }
 
 // A location's forward pair: the time of the thread's last store there, and the view to read it with.
-#[derive(Drop)]
+#[derive(Clone, Copy)]
 pub struct Forward {
     pub time: u8,
     pub view: u8,
 }
 
 // The views of a thread; `cap` and `rel` are CAP and Rel of the Promising-ARM paper (Pulte et al., PLDI 2019), the others have its names.
-#[derive(Drop)]
+#[derive(Clone, Copy)]
 pub struct Views {
     pub rOld: u8,
     pub wOld: u8,
@@ -48,7 +49,7 @@ pub struct Views {
 
 // The outstanding promises are a set of times: time t is in it if bit t - 1 is 1. The arrays come first, so that every copy of a
 // thread cuts it at the same places: a processor hands such a copy on without waiting for memory.
-#[derive(Drop)]
+#[derive(Clone, Copy)]
 pub struct Thread {
     pub registers: [Register; 8],
     pub coherence: [u8; 16],
@@ -58,21 +59,21 @@ pub struct Thread {
     pub views: Views,
 }
 
-#[derive(Drop)]
+#[derive(Clone, Copy)]
 pub struct Machine {
     pub memory: Memory,
     pub threads: [Thread; 4],
 }
 
 // The answer of a rule: the instruction is executed, or the number that refuses it.
-#[derive(Drop)]
+#[derive(Clone, Copy)]
 pub enum RuleAnswer {
     Done,
     Refused(u8),
 }
 
 // The answer, and the thread's state after it; a refused thread is as it was.
-#[derive(Drop)]
+#[derive(Clone, Copy)]
 pub struct Ruled {
     pub answer: RuleAnswer,
     pub thread: Thread,

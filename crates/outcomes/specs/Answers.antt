@@ -2,22 +2,21 @@
 -- Assumes nothing.
 use Rattle.std.specs.Prelude.{◌≡◌, Bool, true, false, cond, List, map, ℕ, ◌*◌, ltb, length, replicate}
 use Rattle.program.specs.File.{FileAnswer, refused, program, read_file}
-use Rattle.theory_sequences.specs.Listing.{Listing, finished, stray, unfinished}
+use Rattle.theory_sequences.specs.Listing.{Listing, finished, unfinished}
 use Rattle.encode_bytes.specs.Places.{put}
 use Rattle.search_sequences.specs.OfProgram.{listing_to}
 use Rattle.search_outcomes.specs.Rows.{row_width, capacity, row_bytes, entry_bytes}
 pub use Rattle.outcomes.specs.declared.Verdict.{Verdict}
-pub use Rattle.outcomes.specs.declared.Verdict.TheVariants.{Finished, Stray, NotFinished, Refused}
+pub use Rattle.outcomes.specs.declared.Verdict.TheVariants.{Finished, NotFinished, Refused}
 pub use Rattle.outcomes.specs.declared.Answer.{Answer}
 
--- no outcome is listed: a refusal, stray, or not finished
+-- no outcome is listed: a refusal, or not finished
 abbrev pub nothing_listed : Verdict → ℕ → Answer
 nothing_listed v n = record { verdict = v; count = n; number = 0 }
 
 -- the answer where there is room for so many outcomes: 40, with the number of all sequences, where there are more
 abbrev pub answer_of : ℕ → Listing (List ℕ) → Answer
 answer_of room (finished n e) = cond (ltb room (length e)) (nothing_listed (Refused 40 0) n) (record { verdict = Finished; count = n; number = length e })
-answer_of room (stray n) = nothing_listed Stray n
 answer_of room (unfinished n) = nothing_listed NotFinished n
 
 -- a table whose entries are all 0; bytes that make no whole entry are as they were
@@ -27,7 +26,6 @@ emptied wide t = put 0 (replicate (row_width wide * capacity wide t) 0) t
 -- the table afterwards: the outcomes that are listed stand at its front, each with its place; every other entry is 0
 abbrev pub table_of : Bool → Listing (List ℕ) → List ℕ → List ℕ
 table_of wide (finished n e) t = cond (ltb (capacity wide t) (length e)) (emptied wide t) (put 0 (row_bytes (map (entry_bytes wide) e)) (emptied wide t))
-table_of wide (stray n) t = emptied wide t
 table_of wide (unfinished n) t = emptied wide t
 
 -- the file's refusal, 1 to 10, comes first, and leaves the table unwritten

@@ -4,7 +4,7 @@ use Rattle.std.specs.Prelude.{◌≡◌, Bool, true, false, List, [], ℕ, ◌-�
 use Rattle.program.specs.declared.Program.{Program}
 use Rattle.program.specs.File.{refused, program, read_file}
 use Rattle.machine.specs.State.{fresh}
-use Rattle.theory_sequences.specs.Sequences.{Among, Listed, strayed}
+use Rattle.theory_sequences.specs.Sequences.{Among, Listed}
 use Rattle.theory_sequences.specs.Answer.{allowed, forbidden}
 use Rattle.theory_sequences.specs.Listing.{Entry, Listing, finished, ListingDemand}
 use Rattle.step.specs.Step.{Step}
@@ -40,7 +40,7 @@ pub record Told (wide : Bool) (f : List ℕ) (p : Program) (b : ℕ) (t : List �
   pub all : Listed (stepping p) fresh sequences
   -- the listing over that list: a sequence that ends complete has an outcome, every other has none
   pub listing : Listing (List ℕ)
-  pub demand : ListingDemand smaller (ending_of p) (strayed (stepping p) fresh) sequences b listing
+  pub demand : ListingDemand smaller (ending_of p) sequences b listing
   -- it is what the code answers, and its outcomes are what stands in the table; where there is no room for all, the answer is 40 and the table is empty
   pub told : r ≡ answer_of (capacity wide t) listing
   pub lent : after ≡ table_of wide listing t

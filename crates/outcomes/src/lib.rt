@@ -1,4 +1,5 @@
 // The listing: all outcomes of the complete accepted sequences, each once, with a budget.
+#![tactic(auto)]
 ghost use Rattle.std.specs.Prelude.{◌≡◌, T};
 ghost use Rattle.program.specs.WellFormed.{program_test};
 ghost use Rattle.outcomes.specs.Answers.{nothing_listed, Listed, ListedWithin};
@@ -14,7 +15,7 @@ use search_table::clear;
 use search_visits::visit;
 
 // A refusal has its number and place.
-#[derive(Drop)]
+#[derive(Clone, Copy)]
 pub enum Verdict {
     Finished,
     NotFinished,
@@ -23,7 +24,7 @@ pub enum Verdict {
 
 // The count is the number of all sequences, also where there are more outcomes than entries (40), or the budget; the number is that
 // of the outcomes, 0 unless finished.
-#[derive(Drop)]
+#[derive(Clone, Copy)]
 pub struct Answer {
     pub verdict: Verdict,
     pub count: u64,

@@ -1,11 +1,13 @@
 // A program by value, as its file has it, and the instructions that its bytes stand for.
+#![tactic(auto)]
+
 ghost use Rattle.std.specs.Prelude.{◌≡◌, ◌<◌};
 ghost use Rattle.std.proofs.Math.Option.{some};
 ghost use Rattle.program.specs.Program.{operand, compute_mode, load_mode, store_mode, fence_mode, decode, instruction_at, instr_at, code_of};
 ghost use Rattle.program.specs.Counts.{one_store};
 
 // An instruction's seven bytes. The operand (k, n) is the constant n for k = 0, the register n for k = 1.
-#[derive(Drop)]
+#[derive(Clone, Copy)]
 pub struct Instruction {
     pub op: u8,
     pub m: u8,
@@ -17,14 +19,14 @@ pub struct Instruction {
 }
 
 // A thread's instructions: the first `count` entries; the others are 0.
-#[derive(Drop)]
+#[derive(Clone, Copy)]
 pub struct Code {
     pub instructions: [Instruction; 16],
     pub count: u8,
 }
 
 // Kind 0: register `index` of `thread` has `value`; kind 1: location `index` ends with `value`.
-#[derive(Drop)]
+#[derive(Clone, Copy)]
 pub struct Condition {
     pub kind: u8,
     pub thread: u8,
@@ -32,7 +34,7 @@ pub struct Condition {
     pub value: u8,
 }
 
-#[derive(Drop)]
+#[derive(Clone, Copy)]
 pub struct Program {
     pub codes: [Code; 4],
     pub question: [Condition; 8],
@@ -41,13 +43,13 @@ pub struct Program {
     pub conditions: u8,
 }
 
-#[derive(Drop)]
+#[derive(Clone, Copy)]
 pub enum Operand {
     Constant(u8),
     OfRegister(u8),
 }
 
-#[derive(Drop)]
+#[derive(Clone, Copy)]
 pub enum ComputeMode {
     Add,
     Subtract,
@@ -55,20 +57,20 @@ pub enum ComputeMode {
     Equal,
 }
 
-#[derive(Drop)]
+#[derive(Clone, Copy)]
 pub enum LoadMode {
     PlainLoad,
     Acquire,
     WeakAcquire,
 }
 
-#[derive(Drop)]
+#[derive(Clone, Copy)]
 pub enum StoreMode {
     PlainStore,
     Release,
 }
 
-#[derive(Drop)]
+#[derive(Clone, Copy)]
 pub enum FenceMode {
     DmbSy,
     DmbLd,
@@ -77,7 +79,7 @@ pub enum FenceMode {
 }
 
 // What an instruction's bytes stand for.
-#[derive(Drop)]
+#[derive(Clone, Copy)]
 pub enum Instr {
     Compute(ComputeMode, u8, Operand, Operand),
     Load(LoadMode, u8, Operand, Operand),
@@ -87,13 +89,13 @@ pub enum Instr {
 }
 
 // The answer to a file: a program, or the number and the place of the refusal.
-#[derive(Drop)]
+#[derive(Clone, Copy)]
 pub enum ReadAnswer {
     Good,
     Refused(u8, usize),
 }
 
-#[derive(Drop)]
+#[derive(Clone, Copy)]
 pub struct FileRead {
     pub answer: ReadAnswer,
     pub program: Program,

@@ -1,5 +1,7 @@
 // Well formed: a program that some file is read as. Each function computes a definition of program's specs/WellFormed.antt or
 // specs/Counts.antt, or a part of one. A test of an array's length is not computed: an array always has its length.
+#![tactic(auto)]
+
 ghost use Rattle.std.specs.Prelude.{◌≡◌, true, cond, ◌&&◌, ◌+◌, ◌<◌, ◌≤◌, eqb, ltb, get_or};
 ghost use Rattle.program.specs.Tests.{below};
 ghost use Rattle.program.specs.Program.{no_condition, instruction_at, code_of};

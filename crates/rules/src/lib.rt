@@ -1,4 +1,5 @@
 // The rules: one instruction executed at a time.
+#![tactic(auto)]
 pub mod operands;
 pub mod plain;
 

@@ -44,13 +44,13 @@ asked_complete p y h = is_true _ (and_left (complete p y) (question_holds p y) (
 -- the trace of an allowed answer has no more steps than the program has instructions and stores together
 pub found_short : (p : Program) (b n : ℕ) (q : List Step) → answer_to p b ≡ allowed n q → length q ≤ size p
 found_short p b n q e =
-    let w = wanted_run p q ((demand_3 p b (sequences_of p) (listed p)).allowed_then n q e).is-wanted in
+    let w = wanted_run p q ((demand_3 p b (sequences_of p) (listed p)).allowed_then n q e).is_wanted in
     bound p q (w.0, w.1)
 
 -- FOUND REPLAYS: the trace of an allowed answer is good, and it ends complete, with the asked outcome
 pub found_replays : (f : List ℕ) (p : Program) → read_file f ≡ program p → (b n : ℕ) (q : List Step) → answer_to p b ≡ allowed n q
     → (y : Machine) × (replay f (trace_bytes q) ≡ replayed p (ended (length q) y)) × (complete p y ≡ true) × ((replay f (trace_bytes q)).holds ≡ true)
 found_replays f p good b n q e =
-    let w = wanted_run p q ((demand_3 p b (sequences_of p) (listed p)).allowed_then n q e).is-wanted in
+    let w = wanted_run p q ((demand_3 p b (sequences_of p) (listed p)).allowed_then n q e).is_wanted in
     let t = run_in_turn p q fresh w.0 w.1 in
     (w.0, in_turn_replayed f p good t, asked_complete p w.0 w.2, in_turn_holds f p good t ∙ w.2)

@@ -7,20 +7,18 @@ use Rattle.trace_record.specs.Trace.{trace_bytes}
 use Rattle.theory_sequences.specs.Answer as sequences
 use Rattle.search_sequences.specs.OfProgram.{answer_to}
 pub use Rattle.search.specs.declared.Verdict.{Verdict}
-pub use Rattle.search.specs.declared.Verdict.TheVariants.{Allowed, Stray, Forbidden, NotFinished, Refused}
+pub use Rattle.search.specs.declared.Verdict.TheVariants.{Allowed, Forbidden, NotFinished, Refused}
 pub use Rattle.search.specs.declared.Answer.{Answer}
 
--- verdict, count and how many steps the trace has: none unless allowed or stray
+-- verdict, count and how many steps the trace has: none unless allowed
 abbrev pub answer_of : sequences.Answer Step → Answer
 answer_of (sequences.allowed n q) = record { verdict = Allowed; count = n; steps = length q }
-answer_of (sequences.stray n q) = record { verdict = Stray; count = n; steps = length q }
 answer_of (sequences.forbidden n) = record { verdict = Forbidden; count = n; steps = 0 }
 answer_of (sequences.unfinished n) = record { verdict = NotFinished; count = n; steps = 0 }
 
--- the lent area afterwards: where allowed or stray, the trace is at its front, 6 bytes for each step; every other byte is what it was, and without a trace all are
+-- the lent area afterwards: where allowed, the trace is at its front, 6 bytes for each step; every other byte is what it was, and without a trace all are
 abbrev pub area_of : sequences.Answer Step → List ℕ → List ℕ
 area_of (sequences.allowed n q) area = trace_bytes q ++ drop (6 * length q) area
-area_of (sequences.stray n q) area = trace_bytes q ++ drop (6 * length q) area
 area_of (sequences.forbidden n) area = area
 area_of (sequences.unfinished n) area = area
 

@@ -1,4 +1,5 @@
 // The search: every accepted sequence in order, with a budget. A sequence is visited before its extensions.
+#![tactic(auto)]
 ghost use Rattle.std.specs.Prelude.{◌≡◌, ◌≤◌, T, length};
 ghost use Rattle.program.specs.WellFormed.{program_test};
 ghost use Rattle.search.specs.Answers.{refusal, Searched, SearchedWithin, cleared};
@@ -12,7 +13,7 @@ use search_table::clear;
 use search_visits::visit;
 
 // A refusal has its number and place.
-#[derive(Drop)]
+#[derive(Clone, Copy)]
 pub enum Verdict {
     Allowed,
     Forbidden,
@@ -21,7 +22,7 @@ pub enum Verdict {
 }
 
 // The count is the place of the sequence found, or the number of all, or the budget; the steps are those of the trace, 0 unless allowed.
-#[derive(Drop)]
+#[derive(Clone, Copy)]
 pub struct Answer {
     pub verdict: Verdict,
     pub count: u64,

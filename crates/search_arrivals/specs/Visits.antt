@@ -1,14 +1,14 @@
 -- What the private parts of a search answer: how far each has come, and what it leaves in lent memory: the trace that it found, or the outcomes that it noted.
 -- Assumes nothing.
 use Rattle.std.specs.Prelude.{◌≡◌, Bool, true, false, cond, List, ℕ, ◌+◌, ◌-◌, ◌*◌, ◌≤◌, leb, length}
+use Rattle.std.proofs.Math.Option.{Option, some}
 use Rattle.program.specs.declared.Program.{Program}
 use Rattle.machine.specs.declared.Machine.{Machine}
 use Rattle.machine.specs.Inner.{Formed}
 use Rattle.theory_sequences.specs.Sequences.{upto, branches}
-use Rattle.theory_sequences.specs.Scan.{Done, ends, on, Scan, going, found, out, scan, NothingNew, asking, done_at}
+use Rattle.theory_sequences.specs.Scan.{Scan, going, found, out, scan, NothingNew, asking, done_at}
 use Rattle.step.specs.Step.{Step}
 use Rattle.step.specs.Outcome.{complete, outcome, asked}
-use Rattle.step.specs.Stray.{thread_strays, astray}
 use Rattle.trace_record.specs.Trace.{trace_bytes}
 use Rattle.step.specs.Inner.{potential}
 use Rattle.encode_bytes.specs.Places.{put}
@@ -23,10 +23,10 @@ pub use Rattle.search_arrivals.specs.declared.Aim.TheVariants.{Question, Outcome
 pub use Rattle.search_arrivals.specs.declared.Arrival.{Arrival}
 pub use Rattle.search_arrivals.specs.declared.Arrival.TheVariants.{Over, Ending, Open}
 
--- what is done at a machine that is visited, with b of the budget left: the question is asked; or the outcome of a complete one is noted; where it is astray, the search ends
-unfoldable pub acts : Program → Aim → Machine → ℕ → Notes → Done Notes
-acts p Question x b n = asking (λ y. asked p y) (λ y. astray p y) x b n
-acts p (Outcomes wide) x b n = elim (astray p x) [ true ↦ ends true | false ↦ on (cond (complete p x) (noted wide (outcome p x) b n) n) ]
+-- what is done at a machine that is visited, with b of the budget left: the question is asked; or the outcome of a complete one is noted
+unfoldable pub acts : Program → Aim → Machine → ℕ → Notes → Option Notes
+acts p Question x b n = asking (λ y. asked p y) x b n
+acts p (Outcomes wide) x b n = some (cond (complete p x) (noted wide (outcome p x) b n) n)
 
 -- the search from x with b of the budget left and n noted
 unfoldable pub visiting : Program → Aim → Machine → ℕ → Notes → Scan Step Notes
@@ -39,29 +39,24 @@ trying p a x ks b n = scan (done_at (stepping p) (acts p a) x) (branches (steppi
 -- after d steps: a trace found below has those steps too
 abbrev pub ran_of : ℕ → Scan Step Notes → Ran
 ran_of d (going b n) = Going b
-ran_of d (found e b q n) = Found e b (d + length q)
+ran_of d (found b q n) = Found b (d + length q)
 ran_of d (out n) = Out
 
--- what is lent where the steps q are found after d others: a search that asks the question lays their trace behind the first d records; a listing shows none
-abbrev pub trail : Aim → ℕ → List Step → Notes → Notes
-trail Question d q n = (put (6 * d) (trace_bytes q) n.0, n.1)
-trail (Outcomes wide) d q n = n
-
--- what is lent, after d steps
-abbrev pub laid : Aim → ℕ → Scan Step Notes → Notes
-laid a d (going b n) = n
-laid a d (found e b q n) = trail a d q n
-laid a d (out n) = n
+-- what is lent, after d steps: the trace found below stands behind the first d records
+abbrev pub laid : ℕ → Scan Step Notes → Notes
+laid d (going b n) = n
+laid d (found b q n) = (put (6 * d) (trace_bytes q) n.0, n.1)
+laid d (out n) = n
 
 -- the answer of a part of the search after d steps, and what it leaves in lent memory
-pub record Reports (a : Aim) (d : ℕ) (o : Scan Step Notes) (r : Ran) (after : Notes) : Type 0 where
+pub record Reports (d : ℕ) (o : Scan Step Notes) (r : Ran) (after : Notes) : Type 0 where
   pub answer : r ≡ ran_of d o
-  pub lent : after ≡ laid a d o
+  pub lent : after ≡ laid d o
 
 -- what is met after d steps where all threads are at their end, by whether the machine is complete and whether the question holds
 abbrev pub at_end : Aim → ℕ → ℕ → Bool → Bool → Arrival
 at_end a d rest false h = Over (Going rest)
-at_end Question d rest true true = Over (Found false rest d)
+at_end Question d rest true true = Over (Found rest d)
 at_end Question d rest true false = Over (Going rest)
 at_end (Outcomes wide) d rest true h = Ending wide rest
 
@@ -86,18 +81,13 @@ pub record Known (p : Program) (a : Aim) (n : Notes) (x : Machine) (k : ℕ) : T
 -- the table's, if it has any
 pub record Opens (p : Program) (x : Machine) (b : ℕ) (t : List ℕ) (i slot : ℕ) : Type 0 where
   pub some_left : b ≡ 0 → ⊥
-  pub on_course : astray p x ≡ false
   pub next : NextOpen p x 0 i
   pub not_ended : i ≡ 4 → ⊥
   pub has_slot : 349 ≤ length t → 349 * slot + 349 ≤ length t
 
--- no thread but i strays: what is known of a machine to which a step of thread i has led from one that is not astray
-abbrev pub OthersOnCourse : Program → Machine → ℕ → Type 0
-OthersOnCourse p x i = (j : ℕ) → (j ≡ i → ⊥) → thread_strays p x j ≡ false
-
 -- what is met at x, where n is noted: the answer of its visit, which notes nothing; a complete machine, whose outcome is to be noted; or a visit that goes on
 unfoldable pub Meets : Program → Aim → Machine → ℕ → ℕ → List ℕ → Notes → Arrival → Type 0
-Meets p a x d b t n (Over r) = Reports a d (visiting p a x b n) r n
+Meets p a x d b t n (Over r) = Reports d (visiting p a x b n) r n
 Meets p a x d b t n (Ending wide rest) = (a ≡ Outcomes wide) × (visiting p a x b n ≡ going rest (noted wide (outcome p x) rest n))
 Meets p a x d b t n (Open i slot) = Opens p x b t i slot
 

@@ -1,4 +1,5 @@
 // What is asked at a machine that the search comes to: the budget, the end, and the table of machines that are known.
+#![tactic(auto)]
 ghost use Rattle.std.specs.Prelude.{◌≡◌};
 ghost use Rattle.machine.specs.Inner.{Formed};
 ghost use Rattle.step.specs.Outcome.{complete, question_holds};
@@ -12,7 +13,7 @@ use step_ending::{complete, question_holds};
 
 // How far a visit has come: on, with so much of the budget left; at a wanted sequence of so many steps, with so much left; or
 // at a sequence with nothing left.
-#[derive(Drop)]
+#[derive(Clone, Copy)]
 pub enum Ran {
     Going(u64),
     Found(u64, usize),
@@ -20,7 +21,7 @@ pub enum Ran {
 }
 
 // What a visit does at a complete machine: it asks the question; or it notes the outcome, in narrow or wide rows.
-#[derive(Drop)]
+#[derive(Clone, Copy)]
 pub enum Aim {
     Question,
     Outcomes(bool),
@@ -28,7 +29,7 @@ pub enum Aim {
 
 // What is met at a machine: its visit is over already; it is complete, its outcome is to be noted, in wide rows or not, and so much
 // is left; or it goes on, from the first thread that is not at its end, and the machine has this slot of the table.
-#[derive(Drop)]
+#[derive(Clone, Copy)]
 pub enum Arrival {
     Over(Ran),
     Ending(bool, u64),

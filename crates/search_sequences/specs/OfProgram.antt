@@ -9,9 +9,8 @@ use Rattle.machine.specs.State.{fresh}
 use Rattle.step.specs.Step.{Step, step, taken}
 use Rattle.step.specs.Order.{Less, every_step}
 use Rattle.step.specs.Outcome.{complete, asked, outcome, smaller}
-use Rattle.step.specs.Stray.{astray}
 use Rattle.theory_sequences.specs.Stepping.{Stepping}
-use Rattle.theory_sequences.specs.Sequences.{run, upto, wanted, strayed}
+use Rattle.theory_sequences.specs.Sequences.{run, upto, wanted}
 use Rattle.theory_sequences.specs.Answer.{Answer, answer}
 use Rattle.theory_sequences.specs.Listing.{Listing, listing}
 
@@ -24,7 +23,6 @@ stepping p = record {
   steps = every_step;
   Less = Less;
   asked = λ x. asked p x;
-  astray = λ x. astray p x;
 }
 
 -- THE ACCEPTED SEQUENCES OF A PROGRAM, in order; none has more steps than the program has instructions and stores together
@@ -33,7 +31,7 @@ sequences_of p = upto (stepping p) (size p) fresh
 
 -- THE ANSWER with budget b
 unfoldable pub answer_to : Program → ℕ → Answer Step
-answer_to p b = answer (wanted (stepping p) fresh) (strayed (stepping p) fresh) (sequences_of p) b
+answer_to p b = answer (wanted (stepping p) fresh) (sequences_of p) b
 
 -- the outcome that a sequence of the program ends with: none unless it is complete
 unfoldable pub ending_of : Program → List Step → Option (List ℕ)
@@ -41,4 +39,4 @@ ending_of p q = elim (run (stepping p) fresh q) [ none ↦ none | some x ↦ con
 
 -- THE LISTING with budget b: all outcomes, each once, smallest first, with the place of the first sequence that reaches it
 unfoldable pub listing_to : Program → ℕ → Listing (List ℕ)
-listing_to p b = listing smaller (ending_of p) (strayed (stepping p) fresh) (sequences_of p) b
+listing_to p b = listing smaller (ending_of p) (sequences_of p) b

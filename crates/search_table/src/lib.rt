@@ -1,6 +1,7 @@
 // A table of machines that are known, in bytes that are lent: slots of 349 bytes, each the 341 bytes of a machine and its count in
 // eight, low byte first. A slot with count 0 is free. A machine has one slot, by a hash of its bytes; a new entry takes the place of
 // the old one.
+#![tactic(auto)]
 ghost use Rattle.std.specs.Prelude.{true, ◌≡◌, ℕ, ◌+◌, ◌*◌, ◌<◌, ◌≤◌, length, get_or, replicate};
 ghost use Rattle.search_table.specs.Table.{slot_with, Sought};
 
@@ -12,7 +13,7 @@ use machine::Machine;
 pub const SLOT: usize = 349;
 
 // The slot of a machine, and the count that stands there for it: 0 if there is none.
-#[derive(Drop)]
+#[derive(Clone, Copy)]
 pub struct Seen {
     pub slot: usize,
     pub count: u64,

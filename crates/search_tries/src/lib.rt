@@ -1,5 +1,6 @@
 // The next steps of one thread that are worth a try, by their number: 0 to 16 execute at that time, from 17 on promise
 // location l with value v as 17 + 256 · l + v.
+#![tactic(auto)]
 pub mod threads;
 
 ghost use Rattle.std.specs.Prelude.{◌≡◌, ◌+◌, ◌≤◌, ◌<◌};
@@ -28,7 +29,7 @@ use search_promises::next_reached;
 use step::{StepAnswer, TraceStep, promise_kept};
 
 // What is worth a try of a thread: its next instruction at time 0 and at the times of a set, and promises.
-#[derive(Drop)]
+#[derive(Clone, Copy)]
 pub struct Attempts {
     pub zero: bool,
     pub later: u16,
@@ -36,14 +37,14 @@ pub struct Attempts {
 }
 
 // The next number that is worth a try, and the one after it if that is known already, else 0: an exploration may find two promises at once.
-#[derive(Drop)]
+#[derive(Clone, Copy)]
 pub struct Ahead {
     pub next: u16,
     pub then: u16,
 }
 
 // The answer of a step of one thread; taken, the thread after it; and what is worth a try of it then.
-#[derive(Drop)]
+#[derive(Clone, Copy)]
 pub struct Attempted {
     pub answer: StepAnswer,
     pub thread: Thread,

@@ -1,4 +1,5 @@
 // One step of the machine: refused with a number and the machine as it came in, or taken with the next machine.
+#![tactic(auto)]
 mod checked;
 
 ghost use Rattle.std.specs.Prelude.{◌≡◌, ◌+◌, ◌^◌, ◌<◌, ◌≤◌};
@@ -19,7 +20,7 @@ use program::{Code, Instr, Program};
 use rules::execute;
 
 // As a trace has it: kind 0 is an execution at time a, with b 0; kind 1 is a promise of the value b at location a.
-#[derive(Drop)]
+#[derive(Clone, Copy)]
 pub struct TraceStep {
     pub kind: u8,
     pub thread: u8,
@@ -27,7 +28,7 @@ pub struct TraceStep {
     pub b: u8,
 }
 
-#[derive(Drop)]
+#[derive(Clone, Copy)]
 pub enum StepAnswer {
     Taken,
     Refused(u8),
@@ -44,7 +45,7 @@ pub fn step_refusal(a: StepAnswer) -> u8
 }
 
 // The answer, and the machine after it; a refused machine is as it came in.
-#[derive(Drop)]
+#[derive(Clone, Copy)]
 pub struct Stepped {
     pub answer: StepAnswer,
     pub machine: Machine,
@@ -60,7 +61,7 @@ pub fn refused(n: u8, x: Machine) -> Stepped
 }
 
 // The answer of a step of one thread; taken, the thread after it.
-#[derive(Drop)]
+#[derive(Clone, Copy)]
 pub struct Moved {
     pub answer: StepAnswer,
     pub thread: Thread,

@@ -1,4 +1,5 @@
 // Text, bytes and numbers printed on standard output.
+#![tactic(auto)]
 use libc::STDOUT_FILENO;
 
 pub fn text(s: &[u8]) {

@@ -252,7 +252,7 @@ module _ {A O : Type 0} (smaller : O → O → Bool) (ending : List A → Option
       allowed_listed n q a =
           let F : First wanted l b n q = (meets wanted l b).allowed_then n q a in
           let h : n - 1 < length l = omega (arith, F.from_one, F.in_list) in
-          let w = wanted_outcome q (subst (λ (z : List A). Among z l) F.there (among_at l (n - 1) [] h)) F.is-wanted in
+          let w = wanted_outcome q (subst (λ (z : List A). Among z l) F.there (among_at l (n - 1) [] h)) F.is_wanted in
           let reached : ending (get_or l (n - 1) []) ≡ some w.0 = ap ending F.there ∙ w.1 in
           let c = lists.complete (n - 1) h w.0 reached in
           let x : Entry O = record { outcome = w.0; place = c.0 } in

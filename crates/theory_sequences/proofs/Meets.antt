@@ -63,7 +63,7 @@ module _ {A : Type 0} (wanted : List A → Bool) where
             in_budget = omega arith;
             in_list = omega arith;
             there = rw p (sym eq);
-            is-wanted = rw eq w;
+            is_wanted = rw eq w;
             none_before = λ j z. f j (omega arith);
           }
 
@@ -94,7 +94,7 @@ module _ {A : Type 0} (wanted : List A → Bool) where
 
   module _ (l : List (List A)) (b : ℕ) where
     hit : (n : ℕ) (q : List A) → First wanted l b n q → wanted (get_or l (n - 1) []) ≡ true
-    hit n q F = rw F.there F.is-wanted
+    hit n q F = rw F.there F.is_wanted
 
     not_later : (n m : ℕ) (p q : List A) → First wanted l b n p → First wanted l b m q → n < m → ⊥
     not_later n m p q F G h = true≢false (sym (hit n p F) ∙ G.none_before (n - 1) (omega (arith, F.from_one)))

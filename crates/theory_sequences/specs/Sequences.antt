@@ -34,10 +34,6 @@ module _ (M : Stepping) where
   unfoldable pub wanted : M.State → List M.Step → Bool
   wanted s q = elim (run s q) [ none ↦ false | some t ↦ M.asked t ]
 
-  -- q is an accepted sequence from s after which the next instruction of some thread strays
-  unfoldable pub strayed : M.State → List M.Step → Bool
-  strayed s q = elim (run s q) [ none ↦ false | some t ↦ M.astray t ]
-
   -- the sequences that begin with k, where k leads to a state whose sequences f lists
   abbrev pub begun : (M.State → List (List M.Step)) → M.Step → Option M.State → List (List M.Step)
   begun f k none = []

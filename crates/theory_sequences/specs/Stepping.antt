@@ -14,5 +14,3 @@ pub record Stepping : Type 1 where
   pub Less : Step → Step → Type 0
   -- complete, with the asked outcome
   pub asked : State → Bool
-  -- the next instruction of some thread strays
-  pub astray : State → Bool

@@ -1,1 +1,2 @@
 // Theory only: merging views, for any number of places.
+#![tactic(auto)]

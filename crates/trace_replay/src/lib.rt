@@ -1,4 +1,5 @@
 // Replay: the records of a trace file are taken one by one on the machine of a program file; the first refusal ends it.
+#![tactic(auto)]
 ghost use Rattle.std.specs.Prelude.{◌≡◌, List, ℕ, ◌*◌};
 ghost use Rattle.program.specs.Program.{no_program};
 ghost use Rattle.program.specs.File.{refused};
@@ -15,7 +16,7 @@ use step_ending::{asked, complete};
 use trace_record::{marked_at, step_at};
 
 // Which file a refusal is in, its number, in the trace the record's index from 0, and the place.
-#[derive(Drop)]
+#[derive(Clone, Copy)]
 pub enum ReplayAnswer {
     Good,
     ProgramRefused(u8, usize),
@@ -23,7 +24,7 @@ pub enum ReplayAnswer {
 }
 
 // The steps taken and the machine after them; whether it is complete, and complete with the asked outcome.
-#[derive(Drop)]
+#[derive(Clone, Copy)]
 pub struct Replayed {
     pub answer: ReplayAnswer,
     pub program: Program,

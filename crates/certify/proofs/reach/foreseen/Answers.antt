@@ -1,0 +1,9 @@
+-- `certify::reach::foreseen` meets its contract.
+-- Assumes nothing.
+use mathlib.Core.Path.{refl}
+use borrow.Author.Rules.{rules}
+use Rattle.certify.proofs.Losing.{fruitless_found}
+use Rattle.certify.proofs.reach.foreseen.Goals as goal
+
+pub returns : goal.returns
+returns c = (λ e i. fruitless_found _ i _ _ c.args.q _ (c.fruitless-gone.ensures e), refl)

@@ -1,0 +1,8 @@
+-- `certify::reach::two_reached` meets its contract.
+-- Assumes nothing.
+use borrow.Author.Rules.{rules}
+use Rattle.certify.proofs.Reaching.{found_twice}
+use Rattle.certify.proofs.reach.two_reached.Goals as goal
+
+pub returns : goal.returns
+returns c = found_twice _ _ _ _ _ c.search_runs.ensures.0

@@ -1,0 +1,9 @@
+-- `certify_ahead::steering::steers` meets its contract.
+-- Assumes nothing.
+use Prim.Native.Nat.{◌-◌, ◌<◌}
+use native.Mathlib.Omega.{arith}
+use borrow.Author.Rules.{rules}
+use Rattle.certify_ahead.proofs.steering.steers.Goals as goal
+
+pub followed-set-requires : goal.followed-set-requires
+followed-set-requires c = let h = c.requires in let l = c.loop-k-test.true in (h.0, omega arith)

@@ -1,0 +1,15 @@
+-- `certify_cares::Cares::and` meets its contract: register by register the cares are joined.
+-- Assumes nothing.
+use mathlib.Core.Path.{◌≡◌}
+use Prim.Native.Nat.{◌-◌}
+use native.Mathlib.Omega.{arith}
+use lib.ListN.{length, length-set}
+use Rattle.program.proofs.Arrays.{length_mapped}
+use Rattle.certify_cares.proofs.Agreeing.{Joined, joined_more, joined_all}
+use Rattle.certify_cares.proofs.Cares.and.Given as goal
+
+abbrev pub invariant-loop-j : goal.invariant-loop-j
+invariant-loop-j l = (length l.both ≡ 8) × Joined l.initial.both l.other.of l.both l.j
+
+abbrev pub decreases-loop-j : goal.decreases-loop-j
+decreases-loop-j l = 8 - l.j

@@ -1,0 +1,16 @@
+-- `certify_trail::passed` meets its contract: the loop puts one step after the other before those that are written.
+-- Assumes nothing.
+use mathlib.Core.List.{List}
+use Prim.Native.Nat.{◌+◌, ◌≤◌}
+use lib.ListN.{length}
+use Rattle.certify_runs.specs.declared.RunStep.{RunStep}
+use Rattle.certify_trail.specs.Trail.{Trail}
+use Rattle.certify_trail.proofs.Written.{Passed, passed_none, passed_more, passed_all}
+use borrow.Author.Rules.{rules}
+use Rattle.certify_trail.proofs.passed.Given as goal
+
+abbrev pub invariant-loop-left : goal.invariant-loop-left
+invariant-loop-left l = (l : List RunStep) → Trail l.initial.r.of l → length l + l.count ≤ 16 → Passed l.r.of l.count l.left l
+
+abbrev pub decreases-loop-left : goal.decreases-loop-left
+decreases-loop-left l = l.left

@@ -1,0 +1,21 @@
+-- `encode_machine::put_coherence` meets its contract: the loop writes 16 bytes.
+-- Assumes nothing.
+use mathlib.Core.Path.{refl}
+use mathlib.Core.List.{[], ◌∷◌}
+use Prim.Native.Nat.{◌+◌, ◌-◌}
+use native.Mathlib.Omega.{arith}
+use Rattle.theory_views.specs.Views.{view_at}
+use Rattle.encode_bytes.proofs.Putting.{Putting, putting_none, putting_more, putting_all, put_one}
+use Rattle.encode_machine.proofs.put_coherence.Goals as goal
+
+pub loop-k-init : goal.loop-k-init
+loop-k-init c = putting_none (omega arith)
+
+pub loop-k-preserved : goal.loop-k-preserved
+loop-k-preserved c = let l = c.loop-k.invariant in let q = l.same in putting_more l c.loop-k-test.true (put_one _ _ _ (omega arith)) refl (omega arith) (omega arith)
+
+pub shape_of-area : goal.shape_of-area
+shape_of-area c = c.loop-k.invariant.same
+
+pub returns : goal.returns
+returns c = putting_all c.loop-k.invariant c.loop-k-test.false

@@ -1,0 +1,23 @@
+-- `encode_machine::put_threads` meets its contract: the loop writes 4 entries of 73 bytes.
+-- Assumes nothing.
+use mathlib.Core.Path.{refl}
+use Prim.Native.Nat.{◌+◌, ◌-◌, ◌*◌}
+use native.Mathlib.Omega.{arith}
+use Rattle.machine.specs.State.{thread_of}
+use Rattle.encode_bytes.proofs.Putting.{Putting, putting_none, putting_more, putting_all}
+use Rattle.encode_machine.specs.Value.{thread_bytes}
+use Rattle.encode_machine.proofs.Lengths.{thread_length}
+use Rattle.encode_machine.proofs.put_threads.Goals as goal
+
+pub loop-i-init : goal.loop-i-init
+loop-i-init c = putting_none (omega arith)
+
+pub loop-i-preserved : goal.loop-i-preserved
+loop-i-preserved c =
+    let l = c.loop-i.invariant in putting_more l c.loop-i-test.true (rw c.thread_of.ensures at c.put_thread.ensures) refl (omega (arith, thread_length (thread_of c.args.x c.loop-i.i))) (let q = l.same in omega arith)
+
+pub shape_of-area : goal.shape_of-area
+shape_of-area c = c.loop-i.invariant.same
+
+pub returns : goal.returns
+returns c = putting_all c.loop-i.invariant c.loop-i-test.false

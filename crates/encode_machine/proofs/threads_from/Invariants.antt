@@ -1,0 +1,14 @@
+-- `encode_machine::threads_from` meets its contract: the loop reads 4 entries of 73 bytes.
+-- Assumes nothing.
+use mathlib.Core.Path.{refl}
+use Prim.Native.Nat.{◌+◌, ◌-◌, ◌*◌}
+use native.Mathlib.Omega.{arith}
+use Rattle.encode_bytes.proofs.Filling.{Filling, filling_one, filling_more, filling_all}
+use Rattle.encode_machine.specs.Value.{thread_from}
+use Rattle.encode_machine.proofs.threads_from.Given as goal
+
+abbrev pub invariant-loop-i : goal.invariant-loop-i
+invariant-loop-i l = Filling thread_from 73 4 l.at l.b l.i (l.at + 73 * l.i) l.threads
+
+abbrev pub decreases-loop-i : goal.decreases-loop-i
+decreases-loop-i l = 4 - l.i

@@ -1,0 +1,17 @@
+-- `encode_program::instructions_from` meets its contract: the loop reads 16 entries of 7 bytes.
+-- Assumes nothing.
+use mathlib.Core.Path.{refl}
+use Prim.Native.Nat.{◌+◌, ◌-◌, ◌*◌}
+use native.Mathlib.Omega.{arith}
+use Rattle.encode_bytes.proofs.Filling.{Filling, filling_one, filling_more, filling_all}
+use Rattle.encode_program.specs.Value.{instruction_from}
+use Rattle.encode_program.proofs.instructions_from.Goals as goal
+
+pub loop-k-init : goal.loop-k-init
+loop-k-init c = filling_one c.instruction_from-first.ensures (omega arith)
+
+pub loop-k-preserved : goal.loop-k-preserved
+loop-k-preserved c = filling_more c.loop-k.invariant c.loop-k-test.true c.instruction_from.ensures refl (omega arith)
+
+pub returns : goal.returns
+returns c = filling_all c.loop-k.invariant c.loop-k-test.false

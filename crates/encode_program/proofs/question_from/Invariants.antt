@@ -1,0 +1,14 @@
+-- `encode_program::question_from` meets its contract: the loop reads 8 entries of 4 bytes.
+-- Assumes nothing.
+use mathlib.Core.Path.{refl}
+use Prim.Native.Nat.{◌+◌, ◌-◌, ◌*◌}
+use native.Mathlib.Omega.{arith}
+use Rattle.encode_bytes.proofs.Filling.{Filling, filling_one, filling_more, filling_all}
+use Rattle.encode_program.specs.Value.{condition_from}
+use Rattle.encode_program.proofs.question_from.Given as goal
+
+abbrev pub invariant-loop-k : goal.invariant-loop-k
+invariant-loop-k l = Filling condition_from 4 8 l.at l.b l.k (l.at + 4 * l.k) l.question
+
+abbrev pub decreases-loop-k : goal.decreases-loop-k
+decreases-loop-k l = 8 - l.k

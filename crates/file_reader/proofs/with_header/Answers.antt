@@ -1,0 +1,7 @@
+-- `file_reader::with_header` meets its contract.
+-- Assumes nothing.
+use borrow.Author.Rules.{rules}
+use Rattle.file_reader.proofs.with_header.Goals as goal
+
+pub returns : goal.returns
+returns c = rw c.no_program-p.ensures

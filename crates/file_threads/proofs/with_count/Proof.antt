@@ -1,8 +1,0 @@
--- `file_threads::with_count` meets its contract.
--- Assumes nothing.
-use borrow.Author.Rules.{rules}
-use Rattle.file_threads.proofs.with_count.Statement.{statement}
-use Rattle.file_threads.proofs.with_count.Tie as tie
-
-pub with_count_spec : {M : Type 1} → statement M
-with_count_spec = tie.close (tie.spec (λ c κs. search rules) (λ c κs. search rules) (λ c. rw (c.with_code.ensures, c.before.code_of_lem.ensures)))

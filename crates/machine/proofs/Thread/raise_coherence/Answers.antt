@@ -1,0 +1,7 @@
+-- `machine::Thread::raise_coherence` meets its contract.
+-- Assumes nothing.
+use borrow.Author.Rules.{rules}
+use Rattle.machine.proofs.Thread.raise_coherence.Goals as goal
+
+pub returns : goal.returns
+returns c = rw c.larger.ensures

@@ -1,0 +1,9 @@
+-- `machine::machines::fresh` meets its contract.
+-- Assumes nothing.
+use borrow.Author.Rules.{rules}
+use Rattle.machine.specs.State.{fresh}
+use Rattle.machine.proofs.machines.fresh.Goals as goal
+
+pub returns : goal.returns
+unfolding fresh
+returns c = rw (c.fresh_memory.ensures, c.fresh_thread-s.ensures)

@@ -1,0 +1,19 @@
+-- `machine_form::registers_test` meets its contract: the loop has tested the first k registers.
+-- Assumes nothing.
+use mathlib.Core.Path.{refl}
+use Prim.Native.Nat.{◌-◌}
+use native.Mathlib.Omega.{arith}
+use lib.Dec.{leb}
+use lib.ListN.{get_or}
+use Rattle.program.proofs.Loops.{Passed, passed_none, passed_more, passed_all}
+use Rattle.machine.specs.State.{fresh_register}
+use Rattle.machine_form.proofs.registers_test.Goals as goal
+
+pub loop-k-init : goal.loop-k-init
+loop-k-init c = passed_none
+
+pub loop-k-preserved : goal.loop-k-preserved
+loop-k-preserved c = passed_more c.loop-k.invariant c.loop-k-test.true refl
+
+pub returns : goal.returns
+returns c = passed_all c.loop-k.invariant c.loop-k-test.false

@@ -1,0 +1,20 @@
+-- `machine_form::threads_test` meets its contract: the loop has tested the first i threads.
+-- Assumes nothing.
+use mathlib.Core.Bool.{cond}
+use Prim.Native.Nat.{◌-◌}
+use native.Mathlib.Omega.{arith}
+use lib.Dec.{ltb}
+use Rattle.program.specs.Program.{code_of}
+use Rattle.program.proofs.Loops.{Passed, passed_none, passed_more, passed_all}
+use Rattle.machine.specs.State.{thread_of}
+use Rattle.machine.specs.WellFormed.{thread_test, unused_thread}
+use Rattle.machine_form.proofs.threads_test.Goals as goal
+
+pub loop-i-init : goal.loop-i-init
+loop-i-init c = passed_none
+
+pub loop-i-preserved : goal.loop-i-preserved
+loop-i-preserved c = passed_more c.loop-i.invariant c.loop-i-test.true (rw c.thread_of.ensures at c.thread_entry-ok.ensures)
+
+pub returns : goal.returns
+returns c = passed_all c.loop-i.invariant c.loop-i-test.false

@@ -1,0 +1,21 @@
+-- `program::compute_mode` meets its contract: one case for each number.
+-- Assumes nothing.
+use borrow.Author.Tests.{ne_eqb}
+use Rattle.program.specs.Program.{compute_mode}
+use Rattle.program.proofs.compute_mode.Goals as goal
+
+pub returns-in-0 : goal.returns-in-0
+unfolding compute_mode
+returns-in-0 c = rw c.in-0.is
+
+pub returns-in-1 : goal.returns-in-1
+unfolding compute_mode
+returns-in-1 c = rw c.in-1.is
+
+pub returns-in-2 : goal.returns-in-2
+unfolding compute_mode
+returns-in-2 c = rw c.in-2.is
+
+pub returns-in_default : goal.returns-in_default
+unfolding compute_mode
+returns-in_default c = let h = c.in_default.in_default-own in simp (ne_eqb _ _ h.rest.0.0.1, ne_eqb _ _ h.rest.0.1, ne_eqb _ _ h.rest.1)

@@ -1,0 +1,17 @@
+-- `program::load_mode` meets its contract: one case for each number.
+-- Assumes nothing.
+use borrow.Author.Tests.{ne_eqb}
+use Rattle.program.specs.Program.{load_mode}
+use Rattle.program.proofs.load_mode.Goals as goal
+
+pub returns-in-0 : goal.returns-in-0
+unfolding load_mode
+returns-in-0 c = rw c.in-0.is
+
+pub returns-in-1 : goal.returns-in-1
+unfolding load_mode
+returns-in-1 c = rw c.in-1.is
+
+pub returns-in_default : goal.returns-in_default
+unfolding load_mode
+returns-in_default c = simp (ne_eqb _ _ c.in_default.in_default-own.rest.0.1, ne_eqb _ _ c.in_default.in_default-own.rest.1)

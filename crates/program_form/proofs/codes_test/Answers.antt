@@ -1,0 +1,20 @@
+-- `program_form::codes_test` meets its contract: the loop has tested the codes of the first i threads.
+-- Assumes nothing.
+use mathlib.Core.Bool.{true, cond, ◌&&◌}
+use Prim.Native.Nat.{◌-◌}
+use native.Mathlib.Omega.{arith}
+use lib.Dec.{eqb, ltb}
+use borrow.Author.Rules.{rules}
+use Rattle.program.specs.Program.{code_of}
+use Rattle.program.specs.WellFormed.{code_test}
+use Rattle.program.proofs.Loops.{Passed, passed_none, passed_more, passed_all}
+use Rattle.program_form.proofs.codes_test.Goals as goal
+
+pub loop-i-init : goal.loop-i-init
+loop-i-init c = passed_none
+
+pub loop-i-preserved : goal.loop-i-preserved
+loop-i-preserved c = passed_more c.loop-i.invariant c.loop-i-test.true (rw c.code_of.ensures at c.code_entry-ok.ensures)
+
+pub returns : goal.returns
+returns c = passed_all c.loop-i.invariant c.loop-i-test.false

@@ -1,0 +1,21 @@
+-- `program_form::question_test` meets its contract: the loop has tested the first k entries.
+-- Assumes nothing.
+use mathlib.Core.Bool.{cond}
+use Prim.Native.Nat.{◌-◌}
+use native.Mathlib.Omega.{arith}
+use lib.Dec.{ltb}
+use lib.ListN.{get_or}
+use borrow.Author.Rules.{rules}
+use Rattle.program.specs.Program.{no_condition}
+use Rattle.program.specs.WellFormed.{condition_test, unused_condition}
+use Rattle.program.proofs.Loops.{Passed, passed_none, passed_more, passed_all}
+use Rattle.program_form.proofs.question_test.Goals as goal
+
+pub loop-k-init : goal.loop-k-init
+loop-k-init c = passed_none
+
+pub loop-k-preserved : goal.loop-k-preserved
+loop-k-preserved c = passed_more c.loop-k.invariant c.loop-k-test.true c.condition_entry-ok.ensures
+
+pub returns : goal.returns
+returns c = passed_all c.loop-k.invariant c.loop-k-test.false

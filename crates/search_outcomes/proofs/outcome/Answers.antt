@@ -1,0 +1,9 @@
+-- `search_outcomes::outcome` meets its contract: the last values, and before them the registers.
+-- Assumes nothing.
+use mathlib.Core.Path.{refl}
+use borrow.Author.Rules.{rules}
+use Rattle.search_outcomes.proofs.Ending.{ending_written}
+use Rattle.search_outcomes.proofs.outcome.Goals as goal
+
+pub returns : goal.returns
+returns c = ending_written _ refl c.put_last.ensures c.put_threads.ensures

@@ -1,0 +1,7 @@
+-- `trace_replay::no_program` meets its contract.
+-- Assumes nothing.
+use borrow.Author.Rules.{rules}
+use Rattle.trace_replay.proofs.no_program.Goals as goal
+
+pub returns : goal.returns
+returns c = rw (c.refused_with.ensures, c.fresh.ensures, c.requires)

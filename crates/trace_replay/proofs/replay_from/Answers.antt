@@ -1,0 +1,53 @@
+-- `trace_replay::replay_from` meets its contract: the replay of the whole is that of the rest.
+-- Assumes nothing.
+use mathlib.Core.Path.{refl, sym, ap, ◌∙◌}
+use Prim.Native.Nat.{◌-◌}
+use native.Mathlib.Omega.{arith}
+use borrow.Author.Rules.{rules}
+use borrow.Author.Tests.{not-true, not-false}
+use Rattle.trace_replay.specs.Answers.{replayed}
+use Rattle.trace_replay.proofs.Records.{Replaying, begins, at_end_lem, cut, full, unmarked, step_refused, step_taken}
+use Rattle.trace_replay.proofs.replay_from.Goals as goal
+
+pub loop-n-init : goal.loop-n-init
+loop-n-init c = begins _ _ _ _ c.requires (omega arith) (omega arith)
+
+pub marked_at-requires : goal.marked_at-requires
+marked_at-requires c = full _ _ _ _ c.loop-n.invariant c.loop-n-test.true
+
+pub returns-then-not-marked_at : goal.returns-then-not-marked_at
+returns-then-not-marked_at c =
+    c.stopped.ensures
+    ∙ ap (replayed _) (sym (unmarked _ _ _ _ c.loop-n.invariant c.loop-n-test.true (sym c.marked_at.ensures ∙ c.if-not-marked_at.true)))
+
+pub step_at-requires : goal.step_at-requires
+step_at-requires c = full _ _ _ _ c.loop-n.invariant c.loop-n-test.true
+
+pub rule_step-r-requires : goal.rule_step-r-requires
+rule_step-r-requires c = c.loop-n.invariant.well
+
+pub returns-in_default : goal.returns-in_default
+returns-in_default c =
+    c.stopped-in_default.ensures
+    ∙ ap (replayed _) (sym (step_refused _ _ _ _ c.loop-n.invariant c.loop-n-test.true (sym c.marked_at.ensures ∙ c.if-not-marked_at.false) _ c.step_at.ensures _ c.rule_step-r.ensures _ _ c.step_refusal.ensures c.in_default.is))
+
+pub loop-n-preserved : goal.loop-n-preserved
+loop-n-preserved c =
+    step_taken _ _ _ _ c.loop-n.invariant c.loop-n-test.true (sym c.marked_at.ensures ∙ c.if-not-marked_at.false) _ c.step_at.ensures _ c.rule_step-r.ensures c.in-Taken.is
+
+pub returns-then-trace-ne0 : goal.returns-then-trace-ne0
+returns-then-trace-ne0 c =
+    let i = c.loop-n.invariant in
+    let w = i.whole in
+    let e = c.if-trace-ne0.true in
+    c.stopped-then-trace-ne0.ensures ∙ ap (replayed _) (sym (cut _ _ _ _ i c.loop-n-test.false (omega arith)))
+
+pub finished-requires : goal.finished-requires
+finished-requires c = c.loop-n.invariant.well
+
+pub returns : goal.returns
+returns c =
+    let i = c.loop-n.invariant in
+    let w = i.last in
+    let e = c.if-trace-ne0.false in
+    c.finished.ensures ∙ ap (replayed _) (sym (at_end_lem _ _ _ _ i c.loop-n-test.false (omega arith)))

@@ -1,0 +1,7 @@
+-- `trace_replay::stopped` meets its contract.
+-- Assumes nothing.
+use borrow.Author.Rules.{rules}
+use Rattle.trace_replay.proofs.stopped.Goals as goal
+
+pub returns : goal.returns
+returns c = rw (c.refused_with.ensures, c.requires)
