@@ -1,5 +1,6 @@
 // The program file, read front to back, record by record.
 #![tactic(auto)]
+
 ghost use Rattle.std.specs.Prelude.{◌≡◌, ◌+◌, ◌≤◌, ◌<◌, length, set};
 ghost use Rattle.program.specs.Program.{no_program};
 ghost use Rattle.program.specs.File.{reading, condition_of, with_header, with_question, read_header, read_body, read_each, read_condition, read_question, read_end, read_file, refused};

@@ -1,5 +1,6 @@
 // The thread records of a program file, each followed by its instruction records.
 #![tactic(auto)]
+
 ghost use Rattle.std.specs.Prelude.{◌≡◌, ◌+◌, ◌≤◌, ◌<◌, length};
 ghost use Rattle.program.specs.Program.{code_of};
 ghost use Rattle.program.specs.File.{reading, instruction_of, with_code, with_instruction, read_each, read_instruction, read_thread};

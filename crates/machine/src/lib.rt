@@ -1,5 +1,6 @@
 // The machine by value: messages, memory, a thread's state with its views, four threads. Times and views are bytes.
 #![tactic(auto)]
+
 pub mod answers;
 pub mod machines;
 pub mod merge;

@@ -1,6 +1,7 @@
 // Well formed: a machine of a program, as refusal 20 asks. Each function computes a definition of machine's specs/WellFormed.antt, or a part of one.
 // A test of an array's length is not computed: an array always has its length.
 #![tactic(auto)]
+
 ghost use Rattle.std.specs.Prelude.{◌≡◌, not, cond, ◌&&◌, ◌||◌, suc, ◌<◌, ◌≤◌, ◌^◌, eqb, leb, ltb, get_or};
 ghost use Rattle.theory_views.specs.Views.{view_at};
 ghost use Rattle.program.specs.Tests.{below};

@@ -12,5 +12,5 @@ pub returns : goal.returns
 unfolding code_of
 returns c =
     let a = c.args in
-    let h : length a.t1.codes ≡ 4 = search length_mapped depth 7 in
-    get_d_any _ _ a.t1.codes a.i (omega arith)
+    let h : length a.p.codes ≡ 4 = search length_mapped depth 7 in
+    get_d_any _ _ a.p.codes a.i (omega arith)

@@ -18,8 +18,8 @@ pub returns : goal.returns
 unfolding complete code_of
 returns c =
     let a = c.args in
-    let p = a.t1 in
-    let x = a.t2 in
+    let p = a.p in
+    let x = a.x in
     let codes : length p.codes ≡ 4 = search length_mapped depth 7 in
     let threads : length x.threads ≡ 4 = search length_mapped depth 7 in
     all_four (λ i. eqb (thread_of x i).position (code_of p i).count && eqb (thread_of x i).promises 0) p.threads (program_facts _ _ c.requires).few_threads

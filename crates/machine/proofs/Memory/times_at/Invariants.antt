@@ -6,7 +6,7 @@ use Rattle.machine.proofs.TimeSets.{Gathered, gathered_none, gathered_step, gath
 use Rattle.machine.proofs.Memory.times_at.Given as goal
 
 abbrev pub invariant-loop-t : goal.invariant-loop-t
-invariant-loop-t l = Gathered (record { count = l.initial.t; l.messages = l.messages }) l.l l.t l.set
+invariant-loop-t l = Gathered (record { count = l.initial.t; messages = l.messages }) l.l l.t l.set
 
 abbrev pub decreases-loop-t : goal.decreases-loop-t
 decreases-loop-t l = l.t

@@ -11,8 +11,8 @@ use Rattle.search_tries.proofs.threads.next_open.Goals as goal
 pub returns : goal.returns
 returns c =
     let a = c.args in
-    let p = a.t1 in
-    let x = a.t2 in
+    let p = a.p in
+    let x = a.x in
     let codes : length p.codes ≡ 4 = search length_mapped depth 7 in
     let threads : length x.threads ≡ 4 = search length_mapped depth 7 in
     rw c.first_of.ensures
