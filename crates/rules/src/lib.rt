@@ -1,5 +1,6 @@
 // The rules: one instruction executed at a time.
 #![tactic(auto)]
+
 pub mod operands;
 pub mod plain;
 

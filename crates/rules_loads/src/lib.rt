@@ -1,5 +1,6 @@
 // Loads at a time: which messages a thread may read, and what reading one leaves.
 #![tactic(auto)]
+
 ghost use Rattle.std.specs.Prelude.{◌≡◌, ◌+◌, ◌<◌, ◌≤◌};
 ghost use Rattle.machine.specs.Rules.{load_pre, readable, none_newer, read_value, read_view, if_acquire, load_views, load_done, load_at};
 ghost use Rattle.machine.specs.Inner.{ruled};

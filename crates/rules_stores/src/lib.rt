@@ -1,5 +1,6 @@
 // Stores at a time: a promise fulfilled, or a certifying run's own message.
 #![tactic(auto)]
+
 ghost use Rattle.std.specs.Prelude.{◌≡◌, ◌+◌, ◌<◌, ◌≤◌, T};
 ghost use Rattle.machine.specs.State.{has};
 ghost use Rattle.machine.specs.Rules.{store_pre, promised, if_release, store_views, store_done, store_at};

@@ -1,5 +1,6 @@
 // The times at which an instruction is worth a try: time 0, and the later times as a set like that of the promises.
 #![tactic(auto)]
+
 ghost use Rattle.std.specs.Prelude.{◌≤◌};
 ghost use Rattle.rules_times.specs.Times.{Later, AtZero, After};
 

@@ -23,11 +23,11 @@ pub returns-then-t-eq0 : goal.returns-then-t-eq0
 unfolding execute
 returns-then-t-eq0 c =
     rw (
-  c.done.ensures,
-  c.compute_done.ensures,
-  c.in-Compute.is,
-  eq-eqb _ _ c.if-t-eq0.true,
-)
+      c.done.ensures,
+      c.compute_done.ensures,
+      c.in-Compute.is,
+      eq-eqb _ _ c.if-t-eq0.true,
+    )
 
 pub returns-else-t-eq0 : goal.returns-else-t-eq0
 unfolding execute
@@ -62,11 +62,11 @@ pub returns-then-t-eq0-2 : goal.returns-then-t-eq0-2
 unfolding execute
 returns-then-t-eq0-2 c =
     rw (
-  c.done-then-t-eq0-2.ensures,
-  c.branch_done.ensures,
-  c.in-Branch.is,
-  eq-eqb _ _ c.if-t-eq0-2.true,
-)
+      c.done-then-t-eq0-2.ensures,
+      c.branch_done.ensures,
+      c.in-Branch.is,
+      eq-eqb _ _ c.if-t-eq0-2.true,
+    )
 
 pub returns-else-t-eq0-2 : goal.returns-else-t-eq0-2
 unfolding execute
@@ -76,11 +76,11 @@ pub returns-then-t-eq0-3 : goal.returns-then-t-eq0-3
 unfolding execute
 returns-then-t-eq0-3 c =
     rw (
-  c.done-then-t-eq0-3.ensures,
-  c.fence_done.ensures,
-  c.in-Fence.is,
-  eq-eqb _ _ c.if-t-eq0-3.true,
-)
+      c.done-then-t-eq0-3.ensures,
+      c.fence_done.ensures,
+      c.in-Fence.is,
+      eq-eqb _ _ c.if-t-eq0-3.true,
+    )
 
 pub returns-else-t-eq0-3 : goal.returns-else-t-eq0-3
 unfolding execute

@@ -1,6 +1,6 @@
 -- `rules_loads::load_at` meets its contract: one law of the rules for each answer.
 -- Assumes nothing.
-use mathlib.Core.Path.{sym, subst}
+use mathlib.Core.Path.{sym, subst, ◌∙◌}
 use native.Mathlib.Omega.{arith}
 use lib.Dec.{T}
 use Rattle.machine.proofs.Effects.{readable_time}
@@ -9,29 +9,29 @@ use borrow.Author.Rules.{rules}
 use Rattle.rules_loads.proofs.load_at.Goals as goal
 
 pub returns-then-not-readable : goal.returns-then-not-readable
-returns-then-not-readable c = rw (c.refused.ensures, load_26 _ _ _ _ _ _ _ (was_false c.readable.ensures c.if-not-readable.true))
+returns-then-not-readable c = rw (c.refused.ensures, load_26 _ _ _ _ _ _ _ (sym c.readable.ensures ∙ c.if-not-readable.true))
 
 pub returns-then-not-none_newer : goal.returns-then-not-none_newer
 returns-then-not-none_newer c =
     let a = c.args in
-    let r = was_true c.readable.ensures c.if-not-readable.false in
+    let r = sym c.readable.ensures ∙ c.if-not-readable.false in
     let e = rw (
       c.larger-span.ensures,
       c.coherence_at.ensures,
       c.load_pre-pre.ensures,
     ) at c.none_newer.ensures in
-    rw (c.refused-then-not-none_newer.ensures, load_27 a.k a.r a.m a.t a.l a.va a.s r (was_false e c.if-not-none_newer.true))
+    rw (c.refused-then-not-none_newer.ensures, load_27 a.k a.r a.m a.t a.l a.va a.s r (sym e ∙ c.if-not-none_newer.true))
 
 pub load_done-requires : goal.load_done-requires
 load_done-requires c =
-    let r = was_true c.readable.ensures c.if-not-readable.false in
+    let r = sym c.readable.ensures ∙ c.if-not-readable.false in
     let h = readable_time _ _ _ (subst T (sym r) tt) in
     omega arith
 
 pub returns : goal.returns
 returns c =
     let a = c.args in
-    let r = was_true c.readable.ensures c.if-not-readable.false in
+    let r = sym c.readable.ensures ∙ c.if-not-readable.false in
     let e = rw (
       c.larger-span.ensures,
       c.coherence_at.ensures,
@@ -39,7 +39,7 @@ returns c =
     ) at c.none_newer.ensures in
     rw (
       c.done.ensures,
-      load_next a.k a.r a.m a.t a.l a.va a.s r (was_true e c.if-not-none_newer.false),
+      load_next a.k a.r a.m a.t a.l a.va a.s r (sym e ∙ c.if-not-none_newer.false),
       c.load_done.ensures,
       c.larger-post.ensures,
       c.read_view.ensures,

@@ -17,7 +17,7 @@ pub returns : goal.returns
 unfolding readable
 returns c =
     simp (
-  ne_eqb _ _ c.if-t-eq0.false,
-  le-leb _ _ c.if-m-t.false,
-  c.message_at.ensures,
-)
+      ne_eqb _ _ c.if-t-eq0.false,
+      le-leb _ _ c.if-m-t.false,
+      c.message_at.ensures,
+    )

@@ -1,16 +1,17 @@
 -- `rules_stores::own_at` meets its contract: one law of the rules for each answer.
 -- Assumes nothing.
+use mathlib.Core.Path.{sym, ◌∙◌}
 use Rattle.machine.proofs.Cases.{was_false, was_true, own_28, own_next}
 use borrow.Author.Rules.{rules}
 use Rattle.rules_stores.proofs.own_at.Goals as goal
 
 pub returns-then-not-below_time : goal.returns-then-not-below_time
-returns-then-not-below_time c = rw (c.refused.ensures, own_28 _ _ _ _ _ _ (was_false c.below_time.ensures c.if-not-below_time.true))
+returns-then-not-below_time c = rw (c.refused.ensures, own_28 _ _ _ _ _ _ (sym c.below_time.ensures ∙ c.if-not-below_time.true))
 
 pub returns : goal.returns
 returns c =
     rw (
-  c.done.ensures,
-  own_next _ _ _ _ _ _ (was_true c.below_time.ensures c.if-not-below_time.false),
-  c.stored.ensures,
-)
+      c.done.ensures,
+      own_next _ _ _ _ _ _ (sym c.below_time.ensures ∙ c.if-not-below_time.false),
+      c.stored.ensures,
+    )

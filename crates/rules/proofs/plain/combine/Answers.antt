@@ -6,11 +6,11 @@ use Rattle.rules.proofs.plain.combine.Goals as goal
 
 pub returns-in-Add : goal.returns-in-Add
 unfolding combine
-returns-in-Add c = rw (c.wrapping_add_u8.ensures, c.in-Add.is)
+returns-in-Add c = rw c.in-Add.is c.wrapping_add_u8.ensures.value
 
 pub returns-in-Subtract : goal.returns-in-Subtract
 unfolding combine
-returns-in-Subtract c = rw c.in-Subtract.is (omega arith)
+returns-in-Subtract c = rw c.in-Subtract.is (let d = c.wrapping_sub_u8.ensures.value in omega arith)
 
 pub returns-in-ExclusiveOr : goal.returns-in-ExclusiveOr
 unfolding combine

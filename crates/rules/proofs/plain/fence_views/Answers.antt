@@ -6,11 +6,11 @@ use Rattle.rules.proofs.plain.fence_views.Goals as goal
 pub returns-in-DmbSy : goal.returns-in-DmbSy
 returns-in-DmbSy c =
     rw (
-  c.raise_w_new.ensures,
-  c.raise_r_new.ensures,
-  c.larger-v.ensures,
-  c.in-DmbSy.is,
-)
+      c.raise_w_new.ensures,
+      c.raise_r_new.ensures,
+      c.larger-v.ensures,
+      c.in-DmbSy.is,
+    )
 
 pub returns-in-DmbLd : goal.returns-in-DmbLd
 returns-in-DmbLd c = rw (c.raise_w_new-in-DmbLd.ensures, c.raise_r_new-in-DmbLd.ensures, c.in-DmbLd.is)
