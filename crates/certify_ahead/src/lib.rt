@@ -1,5 +1,6 @@
 // What lies ahead in a thread's code: whether stores enough are left, and which loads come into none.
 #![tactic(auto)]
+
 pub mod steering;
 
 ghost use Rattle.std.specs.Prelude.{◌≡◌, false, ◌≤◌, ltb};

@@ -2,6 +2,7 @@
 // nothing; 2 for the value; 256 + e no more than that it is not e; 512 + e that it is e or more; 768 + e that it is less than e. And it has a
 // set of locations, which is the care / 65536: as an address the value is of the location that it was of, or of none in the set.
 #![tactic(auto)]
+
 pub mod barred;
 pub mod before;
 

@@ -87,6 +87,10 @@ dead_late {i} {t} {m} {w} {s} sixteen (stored {a = a} p pre low) (owned e) =
       out = subst (λ (q : ℕ). T (has q t)) (sym (with_without s.promises u)) p.out;
       high = subst (λ (n : ℕ). t ≤ view_at (raise_at s.coherence l u) n) at (le_trans before (raise_reaches s.coherence l u in_range_lem));
     }
+dead_late sixteen (computed _) o = elim o [ ]
+dead_late sixteen (loaded _ _) o = elim o [ ]
+dead_late sixteen (branched _) o = elim o [ ]
+dead_late sixteen (fenced _) o = elim o [ ]
 
 -- FULFIL, DO NOT APPEND: no run starts after the message
 pub own_late : {Room : Memory → Type 0} {c : Code} {i : ℕ} (m : Memory) (s : Thread) (x : Instr) (t : ℕ) (z : Thread) (w : Message) (y : Thread) → length s.coherence ≡ 16
@@ -95,7 +99,7 @@ own_late {i = i} m s x t z w y sixteen e gw f =
     dead_ends (dead_late sixteen (effect x m t s z e) (own_effect i m w s gw (effect x (append m w) (append m w).count (add_promise (append m w) s) y f)))
 
 -- where a run that certifies begins with an own message, the instruction executes at no time of the memory
-pub own_only : {c : Code} {i n : ℕ} {m : Memory} {s : Thread} {l : List RunStep} → length s.coherence ≡ 16 → Certifies c i m s (own_message n ∷ l)
+pub own_only : {c : Code} {i : ℕ} {m : Memory} {n : ℕ} {s : Thread} {l : List RunStep} → length s.coherence ≡ 16 → Certifies c i m s (own_message n ∷ l)
     → (x : Instr) → instr_at c s.position ≡ some x → (t : ℕ) (z : Thread) → execute x m t s ≡ next z → ⊥
 own_only {m = m} {s} sixteen (go_own x' w y out g gw few f r) x is_next t z e =
     own_late m s x' t z w y sixteen (subst (λ (o : Instr). execute o m t s ≡ next z) (some-injective x x' (sym is_next ∙ g)) e) gw f (certifies_run r)

@@ -87,12 +87,16 @@ module _ (c : Code) (i : ℕ) (m : Memory) (s : Thread) where
   from_more out none g l z = absurd z
   from_more out (some x) g l z = ⊎_elim (λ q. timed q.0 (omega arith) q.3) (owning (message_of i s x) refl) z
     where
-      timed : (t : ℕ) → t ≤ m.count → Timed x t l → Certifies c i m s l
-      timed t tl b = elim b [ begins {s = s'} e r ↦ go x t s' out g tl e r ]
+      timed : {k : List RunStep} (t : ℕ) → t ≤ m.count → Timed x t k → Certifies c i m s k
+      timed t tl (begins {s = s'} e r) = go x t s' out g tl e r
+
+      owned : {k : List RunStep} (w : Message) → message_of i s x ≡ some w → Fewer m
+          → Begins (own_message (append m w).count) (Certifies c i (append m w)) (execute x (append m w) (append m w).count (add_promise (append m w) s)) k → Certifies c i m s k
+      owned w gw few (begins {s = s'} e r) = go_own x w s' out g gw few e r
 
       owning : (o : Option Message) → message_of i s x ≡ o → Owning x o l → Certifies c i m s l
       owning none gw q = absurd q
-      owning (some w) gw q = elim q.1 [ begins {s = s'} e r ↦ go_own x w s' out g gw q.0 e r ]
+      owning (some w) gw q = owned w gw q.0 q.1
 
 -- and there are no others
 to_more : {c : Code} {i : ℕ} {m : Memory} {s : Thread} {l : List RunStep} → (s.promises ≡ 0 → ⊥) → Certifies c i m s l → More c i m s (instr_at c s.position) l

@@ -13,19 +13,35 @@ use Rattle.machine.specs.Rules.{Executed, refused, next}
 use Rattle.machine.proofs.Effects.{next_same}
 use Rattle.certify_runs.specs.Below.{Thread}
 use Rattle.certify_runs.specs.Certify.{RunStep, Steps, found, or_else, first_from, through}
-use Rattle.certify_runs.specs.First.{Earlier, by_time, Before, parts, alike}
+use Rattle.certify_runs.specs.First.{Earlier, by_time, own_last, Before, parts, alike}
 
 -- ---- the order of runs
 -- no two steps are each earlier than the other
 earlier_one : {a b : RunStep} → Earlier a b → Earlier b a → ⊥
 earlier_one (by_time p) (by_time q) = omega arith
+earlier_one own_last q = elim q [ ]
 
--- no two runs are each before the other
+-- no two runs are each before the other, wherever the second stands
+before_same : {l k l' k' : List RunStep} → l ≡ l' → k ≡ k' → Before l k → Before k' l' → ⊥
+before_same p q (parts {a = a} {b = b} e) (parts {a = b'} {b = a'} d) =
+    let ea : a ≡ a' = cc in
+    let eb : b ≡ b' = cc in
+    earlier_one e (subst (λ (z : RunStep). Earlier z a) (sym eb) (subst (λ (z : RunStep). Earlier b' z) (sym ea) d))
+before_same p q (parts {a = a} {b = b} e) (alike {a = c} d) =
+    let ab : a ≡ b = cc in
+    let same : Earlier b b = subst (λ (z : RunStep). Earlier z b) ab e in
+    earlier_one same same
+before_same p q (alike {a = c} b) (parts {a = b'} {b = a'} d) =
+    let ab : b' ≡ a' = cc in
+    let same : Earlier a' a' = subst (λ (z : RunStep). Earlier z a') ab d in
+    earlier_one same same
+before_same p q (alike {l = l} {k = k} b) (alike {l = k'} {k = l'} d) =
+    let el : l ≡ l' = cc in
+    let ek : k ≡ k' = cc in
+    before_same el ek b d
+
 pub before_one : {l k : List RunStep} → Before l k → Before k l → ⊥
-before_one (parts e) (parts d) = earlier_one e d
-before_one (parts e) (alike d) = earlier_one e e
-before_one (alike b) (parts d) = earlier_one d d
-before_one (alike b) (alike d) = before_one b d
+before_one b d = before_same refl refl b d
 
 -- ---- answers
 -- TELLS, of the runs with P
@@ -91,13 +107,21 @@ pub sooner : {a b : RunStep} {P Q : Thread → List RunStep → Type 0} {o r : E
 sooner e (begins p f) (begins q g) = parts e
 
 pub tells_through : {P : Thread → List RunStep → Type 0} {f : Thread → Steps} (a : RunStep) (o : Executed) → ((s : Thread) → o ≡ next s → Tells (P s) (f s)) → Tells (Begins a P o) (through a f o)
-tells_through a (refused n) h = no_run (λ k b. elim b [ begins e p ↦ let z : ◌≡◌ {A = ℕ} 0 1 = cc in omega arith ])
+tells_through {P} a (refused n) h = no_run (λ k b. unbegun b)
+  where
+    unbegun : {k : List RunStep} → Begins a P (refused n) k → ⊥
+    unbegun (begins e p) = let z : ◌≡◌ {A = ℕ} 0 1 = cc in omega arith
 tells_through {P} a (next s) h = after (h s refl)
   where
     from : {s' : Thread} {l : List RunStep} → next s ≡ next s' → P s' l → P s l
     from {l = l} e p = subst (λ (z : Thread). P z l) (sym (next_same e)) p
 
     after : {r : Steps} → Tells (P s) r → Tells (Begins a P (next s)) (map (λ (l : List RunStep). a ∷ l) r)
-    after (no_run n) = no_run (λ k b. elim b [ begins e p ↦ n _ (from e p) ])
-    after (a_run p least) =
-        a_run (begins refl p) (λ k b. elim b [ begins e q ↦ ⊎_elim (λ same. inl (ap (λ (j : List RunStep). a ∷ j) same)) (λ d. inr (alike d)) (least _ (from e q)) ])
+    after (no_run n) = no_run (λ k b. unmet n b)
+      where
+        unmet : ((l : List RunStep) → P s l → ⊥) → {k : List RunStep} → Begins a P (next s) k → ⊥
+        unmet n (begins e p) = n _ (from e p)
+    after (a_run {l = l} p least) = a_run (begins refl p) (λ k b. first b)
+      where
+        first : {k : List RunStep} → Begins a P (next s) k → (k ≡ (a ∷ l)) ⊎ Before (a ∷ l) k
+        first (begins e q) = ⊎_elim (λ same. inl (ap (λ (j : List RunStep). a ∷ j) same)) (λ d. inr (alike d)) (least _ (from e q))

@@ -2,6 +2,7 @@
 // written. It stands in the words that hold what a failure rests on, since a search that has found what it sought rests on nothing: it takes
 // no place of its own on the stack, and nothing is paid by those who do not look at it.
 #![tactic(auto)]
+
 ghost use Rattle.std.specs.Prelude.{◌≡◌, List, ◌∷◌, ℕ, ◌+◌, ◌≤◌, ◌<◌, length};
 ghost use Rattle.certify_runs.specs.declared.RunStep.{RunStep};
 ghost use Rattle.certify_runs.specs.Values.{run_of};

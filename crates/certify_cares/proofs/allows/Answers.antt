@@ -10,10 +10,10 @@ use borrow.Author.Rules.{rules}
 use Rattle.certify_cares.proofs.allows.Goals as goal
 
 pub returns-then-code-eq0 : goal.returns-then-code-eq0
-returns-then-code-eq0 c = free c.if-code-eq0.true
+returns-then-code-eq0 c = λ e. free c.if-code-eq0.true
 
 pub returns-then-code-lt256 : goal.returns-then-code-lt256
-returns-then-code-lt256 c = absurd (eqb-false 0 1 refl cc)
+returns-then-code-lt256 c = λ e. absurd (eqb-false 0 1 refl cc)
 
 pub returns-then-code-lt512 : goal.returns-then-code-lt512
 returns-then-code-lt512 c =
@@ -23,4 +23,4 @@ pub returns-then-code-lt768 : goal.returns-then-code-lt768
 returns-then-code-lt768 c = λ e. above c.if-code-lt512.false c.if-code-lt768.true (leb→le _ _ (subst T (sym e) tt))
 
 pub returns : goal.returns
-returns c = below (ltb→lt _ _ (subst T (sym e) tt))
+returns c = λ e. below (ltb→lt _ _ (subst T (sym e) tt))

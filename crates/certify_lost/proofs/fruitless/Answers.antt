@@ -11,4 +11,4 @@ pub returns-then-r : goal.returns-then-r
 returns-then-r c = λ e. inr (record { wanted = c.filling.result; there = λ z. c.if-hole-ne0.true z; filling = c.filling.ensures; lost = c.lost-r.ensures e })
 
 pub returns : goal.returns
-returns c = inl (c.promise_lost.ensures e)
+returns c = λ e. inl (c.promise_lost.ensures e)

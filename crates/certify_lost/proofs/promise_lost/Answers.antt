@@ -14,19 +14,19 @@ use Rattle.certify_lost.proofs.Losing.{neither}
 use Rattle.certify_lost.proofs.promise_lost.Goals as goal
 
 pub returns-then-is_empty : goal.returns-then-is_empty
-returns-then-is_empty c = absurd (subst T (sym e) tt)
+returns-then-is_empty c = λ e. absurd (subst T (sym e) tt)
 
 pub first-u-requires : goal.first-u-requires
 first-u-requires c = eqb-false _ _ (sym c.is_empty.ensures ∙ c.if-is_empty.false)
 
 pub returns-then-u-hole : goal.returns-then-u-hole
-returns-then-u-hole c = absurd (subst T (sym e) tt)
+returns-then-u-hole c = λ e. absurd (subst T (sym e) tt)
 
 pub message_at-w-requires : goal.message_at-w-requires
 message_at-w-requires c = let f = c.first-u.ensures in (has_positive _ _ (subst T (sym f.member) tt), f.within)
 
 pub returns-then-w-ge16 : goal.returns-then-w-ge16
-returns-then-w-ge16 c = absurd (subst T (sym e) tt)
+returns-then-w-ge16 c = λ e. absurd (subst T (sym e) tt)
 
 pub returns : goal.returns
 returns c =

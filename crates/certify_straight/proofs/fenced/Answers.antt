@@ -18,4 +18,5 @@ returns-in-2 c = rw (c.raise_w_new-in-2.ensures, c.in-2.is)
 
 pub returns-in_default : goal.returns-in_default
 unfolding fence_mode
-returns-in_default c = simp (c.raise_r_new-in_default.ensures, ne_eqb _ _ c.in_default.in_default-own.rest.0.0.1, ne_eqb _ _ c.in_default.in_default-own.rest.0.1, ne_eqb _ _ c.in_default.in_default-own.rest.1)
+returns-in_default c =
+    simp (c.raise_r_new-in_default.ensures, ne_eqb _ _ c.in_default.in_default-own.rest.0.0.1, ne_eqb _ _ c.in_default.in_default-own.rest.0.1, ne_eqb _ _ c.in_default.in_default-own.rest.1)

@@ -5,7 +5,7 @@ use Rattle.certify_straight.proofs.Walking.{held_constant, held_register, held_p
 use Rattle.certify_straight.proofs.operand_in.Goals as goal
 
 pub returns-then-k-eq0 : goal.returns-then-k-eq0
-returns-then-k-eq0 c = held_constant s _ _ c.if-k-eq0.true
+returns-then-k-eq0 c = λ s h e. held_constant s _ _ c.if-k-eq0.true
 
 pub returns-then-n-lt8 : goal.returns-then-n-lt8
 returns-then-n-lt8 c = λ s h e. held_register s _ _ c.if-k-eq0.false c.if-n-lt8.true _ e

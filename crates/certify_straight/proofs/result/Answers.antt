@@ -19,8 +19,10 @@ returns-in-2 c = rw c.in-2.is
 
 pub returns-then-x-y : goal.returns-then-x-y
 unfolding combine compute_mode
-returns-then-x-y c = simp (ne_eqb _ _ c.in_default.in_default-own.rest.0.0.1, ne_eqb _ _ c.in_default.in_default-own.rest.0.1, ne_eqb _ _ c.in_default.in_default-own.rest.1, eq-eqb _ _ c.if-x-y.true)
+returns-then-x-y c =
+    simp (ne_eqb _ _ c.in_default.in_default-own.rest.0.0.1, ne_eqb _ _ c.in_default.in_default-own.rest.0.1, ne_eqb _ _ c.in_default.in_default-own.rest.1, eq-eqb _ _ c.if-x-y.true)
 
 pub returns-else-x-y : goal.returns-else-x-y
 unfolding combine compute_mode
-returns-else-x-y c = simp (ne_eqb _ _ c.in_default.in_default-own.rest.0.0.1, ne_eqb _ _ c.in_default.in_default-own.rest.0.1, ne_eqb _ _ c.in_default.in_default-own.rest.1, ne_eqb _ _ c.if-x-y.false)
+returns-else-x-y c =
+    simp (ne_eqb _ _ c.in_default.in_default-own.rest.0.0.1, ne_eqb _ _ c.in_default.in_default-own.rest.0.1, ne_eqb _ _ c.in_default.in_default-own.rest.1, ne_eqb _ _ c.if-x-y.false)

@@ -20,4 +20,4 @@ returns-in-2 c = rw c.in-2.is
 
 pub returns-in_default : goal.returns-in_default
 unfolding byte_of
-returns-in_default c = let m = c.in_default in let e : c.args.j ≡ 3 = highest c.requires m.0.0.1 m.0.1 m.1 in rw e
+returns-in_default c = let m = c.in_default.in_default-own.rest in let e : c.args.j ≡ 3 = highest c.requires m.0.0.1 m.0.1 m.1 in rw e

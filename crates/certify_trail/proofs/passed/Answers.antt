@@ -10,7 +10,7 @@ use borrow.Author.Rules.{rules}
 use Rattle.certify_trail.proofs.passed.Goals as goal
 
 pub loop-left-init : goal.loop-left-init
-loop-left-init c = passed_none
+loop-left-init c = λ l. passed_none
 
 pub loop-left-preserved : goal.loop-left-preserved
 loop-left-preserved c = λ l t r. passed_more c.loop-left-test.true c.preceded-r.ensures (c.loop-left.invariant l t r)

@@ -18,6 +18,6 @@ returns-in-2 c = let a = c.args in rw c.in-2.is (put_2 a.word a.b (omega arith))
 pub returns-in_default : goal.returns-in_default
 returns-in_default c =
     let a = c.args in
-    let m = c.in_default in
+    let m = c.in_default.in_default-own.rest in
     let e : a.j ≡ 3 = highest c.requires m.0.0.1 m.0.1 m.1 in
     rw e (put_3 a.word a.b (omega arith))

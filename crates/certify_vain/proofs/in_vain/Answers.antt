@@ -11,13 +11,13 @@ returns-in-Load c =
     λ e. load_vain _ _ _ _ _ _ _ c.in-Load.is _ (rw (c.value_of.ensures, c.value_of-in-Load.ensures) at c.address_of_sum-l.ensures.0) _ _ (c.doubled.ensures e)
 
 pub returns-in-Store : goal.returns-in-Store
-returns-in-Store c = absurd (eqb-false 0 1 refl cc)
+returns-in-Store c = λ e. absurd (eqb-false 0 1 refl cc)
 
 pub returns-in-Compute : goal.returns-in-Compute
-returns-in-Compute c = absurd (eqb-false 0 1 refl cc)
+returns-in-Compute c = λ e. absurd (eqb-false 0 1 refl cc)
 
 pub returns-in-Branch : goal.returns-in-Branch
-returns-in-Branch c = absurd (eqb-false 0 1 refl cc)
+returns-in-Branch c = λ e. absurd (eqb-false 0 1 refl cc)
 
 pub returns-in-Fence : goal.returns-in-Fence
-returns-in-Fence c = absurd (eqb-false 0 1 refl cc)
+returns-in-Fence c = λ e. absurd (eqb-false 0 1 refl cc)

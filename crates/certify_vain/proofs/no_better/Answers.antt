@@ -6,10 +6,10 @@ use borrow.Author.Rules.{rules}
 use Rattle.certify_vain.proofs.no_better.Goals as goal
 
 pub returns-then-care-eq3 : goal.returns-then-care-eq3
-returns-then-care-eq3 c = absurd (subst T (sym e) tt)
+returns-then-care-eq3 c = λ e. absurd (subst T (sym e) tt)
 
 pub returns-then-limit-view : goal.returns-then-limit-view
-returns-then-limit-view c = absurd (subst T (sym e) tt)
+returns-then-limit-view c = λ e. absurd (subst T (sym e) tt)
 
 pub returns : goal.returns
 returns c = λ e. (c.if-care-eq3.false, (c.if-limit-view.false, c.agrees.ensures e))

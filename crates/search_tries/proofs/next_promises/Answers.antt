@@ -1,6 +1,6 @@
 -- `search_tries::next_promises` meets its contract.
 -- Assumes nothing.
-use mathlib.Core.Path.{refl, sym, ◌∙◌}
+use mathlib.Core.Path.{refl}
 use native.Mathlib.Omega.{arith}
 use Rattle.machine.proofs.Cases.{was_false}
 use Rattle.search_tries.proofs.Worth.{none_promised, next_full, one_explored, two_explored}

@@ -10,6 +10,6 @@ use Rattle.certify_cares.proofs.barred.turned.Goals as goal
 
 pub returns : goal.returns
 returns c =
-    let h : c.args.by % 16 < 16 = omega arith in
+    λ y m. let h : c.args.by % 16 < 16 = omega arith in
     let e : (c.args.by + y) % 16 ≡ (c.args.by % 16 + y) % 16 = omega arith in
     turned_marked c.args.set (c.args.by % 16) y h (subst (λ (x : ℕ). Marked c.args.set x) e m)

@@ -19,7 +19,7 @@ returns-then-care-gt511 c = let b = c.both-then-care-gt511.ensures in λ x' y' p
 pub returns-then-care-ne256 : goal.returns-then-care-ne256
 returns-then-care-ne256 c =
     let a = c.args in
-    λ x' y' p q. other_difference c.if-care-lt256.false (let l = c.if-care-gt511.false in omega arith) (eqb-false a.care 256 (not-true _ c.if-care-ne256.true)) refl (omega arith) p q
+    λ x' y' p q. other_difference c.if-care-lt256.false (let l = c.if-care-gt511.false in omega arith) c.if-care-ne256.true refl (omega arith) p q
 
 pub returns : goal.returns
 returns c = λ x' y' p q. other_difference_first c.if-care-lt256.false (let l = c.if-care-gt511.false in omega arith) refl (omega arith) p q

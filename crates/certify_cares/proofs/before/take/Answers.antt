@@ -12,13 +12,11 @@ pub returns-then-r-ge8 : goal.returns-then-r-ge8
 returns-then-r-ge8 c =
     let k = c.args.of.now in
     let h : length k ≡ 8 = c.requires in
-    let l = c.if-r-ge8.true in
-    (h, (sym (get_or-eq_default k 2 {n = c.args.r} (omega arith)), λ s s' a j d. a j))
+    let l = c.if-r-ge8.true in record { of_len = h; value = (sym (get_or-eq_default k 2 {n = c.args.r} (omega arith)), λ s s' a j d. a j) }
 
 pub returns : goal.returns
 returns c =
     let k = c.args.of.now in
     let r = c.args.r in
     let h : length k ≡ 8 = c.requires in
-    let l = c.if-r-ge8.false in
-    (length-set k r 0 ∙ h, (get_d_any 0 2 k r (omega arith), forgotten k r 0))
+    let l = c.if-r-ge8.false in record { of_len = length-set k r 0 ∙ h; value = (get_d_any 0 2 k r (omega arith), forgotten k r 0) }

@@ -8,16 +8,16 @@ use borrow.Author.Rules.{rules}
 use Rattle.certify_lost.proofs.ahead.is_store.Goals as goal
 
 pub returns-in-Store : goal.returns-in-Store
-returns-in-Store c = absurd (subst T e tt)
+returns-in-Store c = λ e. absurd (subst T e tt)
 
 pub returns-in-Compute : goal.returns-in-Compute
-returns-in-Compute c = ap stores_of c.in-Compute.is
+returns-in-Compute c = λ e. ap stores_of c.in-Compute.is
 
 pub returns-in-Load : goal.returns-in-Load
-returns-in-Load c = ap stores_of c.in-Load.is
+returns-in-Load c = λ e. ap stores_of c.in-Load.is
 
 pub returns-in-Branch : goal.returns-in-Branch
-returns-in-Branch c = ap stores_of c.in-Branch.is
+returns-in-Branch c = λ e. ap stores_of c.in-Branch.is
 
 pub returns-in-Fence : goal.returns-in-Fence
-returns-in-Fence c = ap stores_of c.in-Fence.is
+returns-in-Fence c = λ e. ap stores_of c.in-Fence.is

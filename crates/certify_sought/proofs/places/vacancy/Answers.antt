@@ -7,10 +7,10 @@ use Rattle.certify_sought.proofs.Placing.{vacant_out}
 use Rattle.certify_sought.proofs.places.vacancy.Goals as goal
 
 pub returns-then-not-apart : goal.returns-then-not-apart
-returns-then-not-apart c = absurd (out (all_marked j low))
+returns-then-not-apart c = λ j low out. absurd (out (all_marked j low))
 
 pub returns-then-marked : goal.returns-then-marked
-returns-then-marked c = absurd (out (all_marked j low))
+returns-then-marked c = λ j low out. absurd (out (all_marked j low))
 
 pub returns : goal.returns
 returns c =

@@ -7,10 +7,10 @@ use borrow.Author.Rules.{rules}
 use Rattle.certify_tried.proofs.blind.told.Goals as goal
 
 pub returns-then-not-is : goal.returns-then-not-is
-returns-then-not-is c = absurd (subst T (sym e ∙ c.unknown.ensures) tt)
+returns-then-not-is c = λ e. absurd (subst T (sym e ∙ c.unknown.ensures) tt)
 
 pub returns-then-of_register-ne0 : goal.returns-then-of_register-ne0
-returns-then-of_register-ne0 c = absurd (subst T (sym e ∙ c.unknown-then-of_register-ne0.ensures) tt)
+returns-then-of_register-ne0 c = λ e. absurd (subst T (sym e ∙ c.unknown-then-of_register-ne0.ensures) tt)
 
 pub returns : goal.returns
 returns c =

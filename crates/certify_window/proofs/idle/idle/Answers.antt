@@ -7,16 +7,16 @@ use Rattle.certify_window.proofs.Idling.{vacant_past, unseen_by, early_by, load_
 use Rattle.certify_window.proofs.idle.idle.Goals as goal
 
 pub returns-then-t-ne0 : goal.returns-then-t-ne0
-returns-then-t-ne0 c = absurd (subst T (sym e) tt)
+returns-then-t-ne0 c = λ e. absurd (subst T (sym e) tt)
 
 pub returns-then-next_message-ne17 : goal.returns-then-next_message-ne17
-returns-then-next_message-ne17 c = absurd (subst T (sym e) tt)
+returns-then-next_message-ne17 c = λ e. absurd (subst T (sym e) tt)
 
 pub returns-then-pair : goal.returns-then-pair
-returns-then-pair c = absurd (subst T (sym e) tt)
+returns-then-pair c = λ e. absurd (subst T (sym e) tt)
 
 pub returns-then-m-v : goal.returns-then-m-v
-returns-then-m-v c = absurd (subst T (sym e) tt)
+returns-then-m-v c = λ e. absurd (subst T (sym e) tt)
 
 pub returns-else-m-v : goal.returns-else-m-v
 returns-else-m-v c =
@@ -27,13 +27,13 @@ returns-else-m-v c =
     λ e. load_idles _ _ _ _ _ _ _ _ _ _ c.in-Load.is c.if-t-ne0.false place here vacant unseen (rw c.coherence_at-v.ensures at c.if-m-v.false) (rw c.coherence_at-v.ensures at (early_by c.coherence_at-v.result c.args.hole e))
 
 pub returns-in-Store : goal.returns-in-Store
-returns-in-Store c = absurd (subst T (sym e) tt)
+returns-in-Store c = λ e. absurd (subst T (sym e) tt)
 
 pub returns-in-Compute : goal.returns-in-Compute
-returns-in-Compute c = absurd (subst T (sym e) tt)
+returns-in-Compute c = λ e. absurd (subst T (sym e) tt)
 
 pub returns-in-Branch : goal.returns-in-Branch
-returns-in-Branch c = absurd (subst T (sym e) tt)
+returns-in-Branch c = λ e. absurd (subst T (sym e) tt)
 
 pub returns-in-Fence : goal.returns-in-Fence
-returns-in-Fence c = absurd (subst T (sym e) tt)
+returns-in-Fence c = λ e. absurd (subst T (sym e) tt)
