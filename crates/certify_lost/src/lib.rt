@@ -1,5 +1,6 @@
 // Messages that are lost: no store that a thread can come to can write them any more, whatever it reads before.
 #![tactic(auto)]
+
 pub mod ahead;
 pub mod telling;
 pub mod wanted;

@@ -1,5 +1,6 @@
 // What the runs of a thread alone are searched for: numbers met and sought; and what the tries of an instruction rest on.
 #![tactic(auto)]
+
 pub mod asks;
 pub mod goal;
 mod places;

@@ -44,7 +44,7 @@ leads_on {c} {s} {y} {y'} x l g e = go l
     go here = on x y' g e here
     go (on x' s' g' e' rest) = on x' s' g' e' (go rest)
 
-pub walked_leads : {c : Code} {s y : Thread} {steps : List Step} {j : ℕ} → Walked c s steps j y → Leads c s y
+pub walked_leads : {c : Code} {s : Thread} {steps : List Step} {y : Thread} {j : ℕ} → Walked c s steps j y → Leads c s y
 walked_leads start = here
 walked_leads (further x w g p i t) = leads_on x (walked_leads w) g p
 

@@ -156,6 +156,15 @@ pub record Turn (c : Code) (s : Thread) (registers : List Register) (n : ℕ) (v
   pub second_found : (y : Thread) → length y.registers ≡ 8 → get_or registers ((instruction_at c n).n2 % 8) fresh_register ≡ get_or y.registers ((instruction_at c n).n2 % 8) fresh_register
       → (b.value ≡ value_of y (second_of (instruction_at c n))) × (b.view ≡ view_of y (second_of (instruction_at c n)))
 
+pub a_turn : {c : Code} {s : Thread} {registers : List Register} {n : ℕ} {views : Views} {steps : List Step} {j : ℕ} (a b : Register) {step : Step}
+    → On c s registers n views steps j → step ≡ step_over (instruction_at c n) a b → n < c.count → c.count ≤ 16
+    → ((y : Thread) → length y.registers ≡ 8 → get_or registers ((instruction_at c n).n1 % 8) fresh_register ≡ get_or y.registers ((instruction_at c n).n1 % 8) fresh_register
+    → (a.value ≡ value_of y (first_of (instruction_at c n))) × (a.view ≡ view_of y (first_of (instruction_at c n))))
+    → ((y : Thread) → length y.registers ≡ 8 → get_or registers ((instruction_at c n).n2 % 8) fresh_register ≡ get_or y.registers ((instruction_at c n).n2 % 8) fresh_register
+    → (b.value ≡ value_of y (second_of (instruction_at c n))) × (b.view ≡ view_of y (second_of (instruction_at c n))))
+    → Turn c s registers n views steps j a b step
+a_turn a b o t i h f g = record { tells = t; on = o; inside = i; short = h; first_found = f; second_found = g }
+
 module _ {c : Code} {s : Thread} {registers : List Register} {n : ℕ} {views : Views} {steps : List Step} {j : ℕ} {a b : Register} {step : Step} (u : Turn c s registers n views steps j a b step) where
   abbrev here : Instruction
   here = instruction_at c n

@@ -1,6 +1,7 @@
 // The instructions that have one way to go on, taken at once: computes, branches and fences; and what a failure after them rests on before
 // them.
 #![tactic(auto)]
+
 ghost use Rattle.std.specs.Prelude.{◌≡◌, ◌+◌, ◌%◌, ◌<◌, ◌≤◌, true, false, length, ◌==◌, slice_index_or};
 ghost use Rattle.program.specs.Program.{operand, compute_mode, fence_mode};
 ghost use Rattle.program.specs.Inner.{CodeOk};

@@ -1,5 +1,6 @@
 // Times at which a load need not be tried: an earlier one has failed, and what it left differs in nothing that counted.
 #![tactic(auto)]
+
 ghost use Rattle.std.specs.Prelude.{◌≡◌, true, cond, ◌≤◌, ◌<◌, eqb};
 ghost use Rattle.certify_cares.specs.Cares.{Agrees};
 ghost use Rattle.certify_vain.specs.Tries.{Doubled, Vain, LeftOut, PassedOver};

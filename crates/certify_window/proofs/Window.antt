@@ -89,7 +89,7 @@ module _ (m : Memory) (s : Thread) where
       record { later = h.later; within = h.within; between = λ u s' lo hi e. reads u s' lo hi (effect (Load k r a b) m u s s' (subst (λ (y : Instr). execute y m u s ≡ next s') is e)) }
     where
       reads : (u : ℕ) (s' : Thread) → t < u → u < n → Effect m u s (Load k r a b) s' → ⊥
-      reads u s' lo hi (loaded d q) = h.between u lo hi (effect_time (loaded {k = k} {r = r} {a = a} {b = b} d q)) (read_there m (load_location s a b) u (omega arith) d ∙ sym le)
+      reads u s' lo hi (loaded d q) = h.between u lo hi (effect_time {s = s} (loaded {k = k} {r = r} {a = a} {b = b} d q)) (read_there m (load_location s a b) u (omega arith) d ∙ sym le)
 
   -- what is neither executes at time 0 only
   other_following : (x : Instr) → ((u : ℕ) (s' : Thread) → Effect m u s x s' → u ≡ 0) → (t : ℕ) → t ≤ 16 → Following x m s t 17

@@ -1,5 +1,6 @@
 // The times at which an instruction is worth a try, one by one.
 #![tactic(auto)]
+
 pub mod idle;
 
 ghost use Rattle.std.specs.Prelude.{◌≤◌};

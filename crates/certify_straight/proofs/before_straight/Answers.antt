@@ -17,7 +17,7 @@ pub loop-left-preserved-then-e-eq0 : goal.loop-left-preserved-then-e-eq0
 loop-left-preserved-then-e-eq0 c =
     let b = c.loop-left.invariant.1 in
     let h = b.0 in
-    (c.before_compute.ensures.0, (omega arith, λ c' s z g. one_compute_back _ _ _ _ c.loop-left-test.true c.if-e-eq0.true c.before_compute.ensures.1 c' s z _ (b.1 c' s z g)))
+    (c.before_compute.ensures.of_len, (omega arith, λ c' s z g. one_compute_back _ _ _ _ c.loop-left-test.true c.if-e-eq0.true c.before_compute.ensures.agreeing_but c' s z _ (b.1 c' s z g)))
 
 pub before_branch-requires : goal.before_branch-requires
 before_branch-requires c = c.loop-left.invariant.0
@@ -26,7 +26,7 @@ pub loop-left-preserved-then-e-eq3 : goal.loop-left-preserved-then-e-eq3
 loop-left-preserved-then-e-eq3 c =
     let b = c.loop-left.invariant.1 in
     let h = b.0 in
-    (c.before_branch.ensures.0, (omega arith, λ c' s z g. one_branch_back _ _ _ _ c.loop-left-test.true c.if-e-eq3.true c.before_branch.ensures.1 c' s z _ (b.1 c' s z g)))
+    (c.before_branch.ensures.of_len, (omega arith, λ c' s z g. one_branch_back _ _ _ _ c.loop-left-test.true c.if-e-eq3.true c.before_branch.ensures.agreeing c' s z _ (b.1 c' s z g)))
 
 pub loop-left-preserved : goal.loop-left-preserved
 loop-left-preserved c =

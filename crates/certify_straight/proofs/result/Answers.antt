@@ -7,11 +7,11 @@ use Rattle.certify_straight.proofs.result.Goals as goal
 
 pub returns-in-0 : goal.returns-in-0
 unfolding combine compute_mode
-returns-in-0 c = rw (c.wrapping_add_u8.ensures, c.in-0.is)
+returns-in-0 c = rw c.in-0.is c.wrapping_add_u8.ensures.value
 
 pub returns-in-1 : goal.returns-in-1
 unfolding combine compute_mode
-returns-in-1 c = rw c.in-1.is (omega arith)
+returns-in-1 c = rw c.in-1.is (let d = c.wrapping_sub_u8.ensures.value in omega arith)
 
 pub returns-in-2 : goal.returns-in-2
 unfolding combine compute_mode

@@ -10,7 +10,7 @@ use borrow.Author.Rules.{rules}
 use Rattle.certify_trail.proofs.passed.Given as goal
 
 abbrev pub invariant-loop-left : goal.invariant-loop-left
-invariant-loop-left l = (l : List RunStep) → Trail l.initial.r.of l → length l + l.count ≤ 16 → Passed l.r.of l.count l.left l
+invariant-loop-left l = (run : List RunStep) → Trail l.initial.r.of run → length run + l.count ≤ 16 → Passed l.r.of l.count l.left run
 
 abbrev pub decreases-loop-left : goal.decreases-loop-left
 decreases-loop-left l = l.left

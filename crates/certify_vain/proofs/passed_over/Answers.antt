@@ -6,6 +6,7 @@ use Prim.Native.Nat.{◌-◌, ◌<◌}
 use native.Mathlib.Omega.{arith}
 use Rattle.certify_vain.proofs.Passing.{Omits, Worse, omits_none, omits_one, worse_here, passed_over}
 use Rattle.certify_vain.proofs.passed_over.Goals as goal
+use Rattle.certify_vain.proofs.passed_over.Goals.{then-no_better, else-no_better}
 
 pub forward_at-pair-requires : goal.forward_at-pair-requires
 forward_at-pair-requires c = c.requires.0
@@ -30,12 +31,12 @@ loop-u-preserved c =
     let h = c.loop-u.invariant.0 in
     let l = c.after-u-in-loop-u.ensures.later in (
       omega arith,
-      ⊎_elim
-          (λ w. subst (Omits _ _) (sym w.2) (omits_one _ _ _ _ _ c.loop-u.invariant.1
-          (worse_here _ _ _ _ _ h _ _ c.view_by-view.ensures c.view_by.ensures _ _ c.read_value-value.ensures c.read_value.ensures (c.no_better.ensures w.0.taken).1)
-          w.1.ensures))
-          (λ w. subst (Omits _ _) (sym w.1) c.loop-u.invariant.1)
-          c.if-no_better.branch,
+      elim c.if-no_better.branch [
+        | then-no_better w ↦ subst (Omits _ _) (sym w.left-is) (omits_one _ _ _ _ _ c.loop-u.invariant.1
+            (worse_here _ _ _ _ _ h _ _ c.view_by-view.ensures c.view_by.ensures _ _ c.read_value-value.ensures c.read_value.ensures (c.no_better.ensures w.if-no_better.true).1)
+            w.left_out-left.ensures)
+        | else-no_better w ↦ subst (Omits _ _) (sym w.left-is) c.loop-u.invariant.1
+      ],
     )
 
 pub returns : goal.returns
