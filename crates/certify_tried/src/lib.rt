@@ -1,5 +1,6 @@
 // What is known after some tries of an instruction, and whether anything can come of another.
 #![tactic(auto)]
+
 pub mod blind;
 
 ghost use Rattle.std.specs.Prelude.{◌≡◌, true, ◌+◌, ◌≤◌, ◌<◌, ltb, replicate};
