@@ -108,7 +108,7 @@ module _ (c : Code) (i n : ℕ) (free : Loadless c n) where
       let on = moves f in
       let count = k.same_count in
       own {m = m} x w y g gw (omega arith) (executes (own_same w (no_load s le g) k f))
-      (loadless_comes pass (omega arith) (subst (Kept (append m w) (append m' w)) (sym (own_leaves (own_effect i m' w s gw f))) (kept_append k w)) r)
+      (loadless_comes pass {m = append m w} (omega arith) (subst (Kept (append m w) (append m' w)) (sym (own_leaves (own_effect i m' w s gw f))) (kept_append k w)) r)
 
   -- so it is for certification
   loadless_certified : {m m' : Memory} (s : Thread) → n ≤ s.position → Kept m m' s.promises → T (certified c i m' s) → T (certified c i m s)

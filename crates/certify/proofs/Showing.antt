@@ -87,7 +87,7 @@ pub shows_stop : {c : Code} {i : ℕ} {m : Memory} {s : Thread} {q : Sought} (no
 shows_stop now e written asked z = ([], (first_stop e, written))
 
 -- ---- instructions that have one way to go on
-walked_promises : {c : Code} {s y : Thread} {steps : List Step} {j : ℕ} → Walked c s steps j y → y.promises ≡ s.promises
+walked_promises : {c : Code} {s : Thread} {steps : List Step} {y : Thread} {j : ℕ} → Walked c s steps j y → y.promises ≡ s.promises
 walked_promises start = refl
 walked_promises (further x w g p told tells) = plain_promises x _ _ p ∙ walked_promises w
 
@@ -96,7 +96,7 @@ unfolding passing
 length_passing zero l = omega arith
 length_passing (suc n) l = let h = length_passing n (executed 0 ∷ l) in omega arith
 
-walked_first : {c : Code} {i : ℕ} {m : Memory} {s y : Thread} {steps : List Step} {j : ℕ} → (s.promises ≡ 0 → ⊥) → Walked c s steps j y → (l : List RunStep) → First c i m y l → First c i m s (passing j l)
+walked_first : {c : Code} {i : ℕ} {m : Memory} {s : Thread} {steps : List Step} {y : Thread} {j : ℕ} → (s.promises ≡ 0 → ⊥) → Walked c s steps j y → (l : List RunStep) → First c i m y l → First c i m s (passing j l)
 unfolding passing
 walked_first out start l d = d
 walked_first {c} {i} {m} out (further {y = y} {y' = y'} x w g p told tells) l d =

@@ -237,7 +237,7 @@ idle_comes {Goal} {Room} {c} {i} {l} {b} pass {m} {z} (own x w z' g gw room e r)
     let m' = append m w in
     let known = o.known in
     let f = own_follows l b m' (add_promise m' z) v o.low (omega arith) i z x gw (spared_append m w l b o.vacant known) (effect x m' m'.count (add_promise m' z) z' e) in
-    own x w f.after g (message_same z _ i x ∙ gw) room (executes f.does) (near_too (Comes Goal Room c i m') f.near r (idle_comes pass r))
+    own x w f.after g (message_same z (set z.coherence l v) i x ∙ gw) room (executes f.does) (near_too (Comes Goal Room c i m') f.near r (idle_comes pass r))
 
 -- and by the same steps
 idle_certifies : {c : Code} {i l b : ℕ} {m : Memory} {z : Thread} {k : List RunStep} → Certifies c i m z k → (v : ℕ) → Idle l b m z v → Certifies c i m (put z l v) k
@@ -249,7 +249,7 @@ idle_certifies {c} {i} {l} {b} {m} {z} (go_own {l = k} x w z' out g gw few e r) 
     let m' = append m w in
     let known = o.known in
     let f = own_follows l b m' (add_promise m' z) v o.low (omega arith) i z x gw (spared_append m w l b o.vacant known) (effect x m' m'.count (add_promise m' z) z' e) in
-    go_own x w f.after out g (message_same z _ i x ∙ gw) few (executes f.does) (near_too (λ u. Certifies c i m' u k) f.near r (λ u near. idle_certifies r u near))
+    go_own x w f.after out g (message_same z (set z.coherence l v) i x ∙ gw) few (executes f.does) (near_too (λ u. Certifies c i m' u k) f.near r (λ u near. idle_certifies r u near))
 
 -- so it is for certification
 idle_certified : (c : Code) (i : ℕ) {l b : ℕ} {m : Memory} {z : Thread} → T (certified c i m z) → (v : ℕ) → Idle l b m z v → T (certified c i m (put z l v))
@@ -265,7 +265,7 @@ idle_fills {c} {i} {x} {h} {k} {l} {b} {m} {z} v o after f =
     let w = own_follows l b m' z v o.low o.known i z x f.is_own (spared_fill m h f.message l b o.vacant before) (effect x m' h z q.0 q.1) in
     record {
       message = f.message;
-      is_own = message_same z _ i x ∙ f.is_own;
+      is_own = message_same z (set z.coherence l v) i x ∙ f.is_own;
       byte = f.byte;
       number = f.number;
       keeps = onward_next (certified c i m') (execute x m' h (put z l v)) w.after (executes w.does) (near_too (λ u. T (certified c i m' u)) w.near q.2 (idle_certified c i q.2));

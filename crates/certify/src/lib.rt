@@ -1,5 +1,6 @@
 // Certification of one thread: whether it can fulfil all its promises while no other thread runs.
 #![tactic(auto)]
+
 mod checked;
 pub mod reach;
 

@@ -9,8 +9,8 @@ pub search_runs-r-requires : goal.search_runs-r-requires
 search_runs-r-requires c = c.requires
 
 pub returns-then-r-ne0 : goal.returns-then-r-ne0
-returns-then-r-ne0 c = c.unshown.ensures ∙ show_none _ _ _ _ c.requires.code_ok.short _ c.certified.ensures _ c.search_runs-r.ensures.0 c.if-r-ne0.true
+returns-then-r-ne0 c = c.unshown.ensures ∙ show_none _ _ _ _ c.requires.code_ok.short _ c.certified.ensures _ c.search_runs-r.ensures.found c.if-r-ne0.true
 
 pub returns : goal.returns
 returns c =
-    show_run _ _ _ _ c.requires.code_ok.short _ c.certified.ensures _ c.search_runs-r.ensures.0 c.search_runs-r.ensures.1 c.if-r-ne0.false _ c.run_of.ensures
+    show_run _ _ _ _ c.requires.code_ok.short _ c.certified.ensures _ c.search_runs-r.ensures.found c.search_runs-r.ensures.shows c.if-r-ne0.false _ c.run_of.ensures
