@@ -1,5 +1,6 @@
 // Bytes and numbers written into a lent area at a place: what the byte forms of programs and machines are made of.
 #![tactic(auto)]
+
 ghost use Rattle.std.specs.Prelude.{◌≡◌, [], ◌∷◌, ◌+◌, ◌*◌, ◌≤◌, length, drop, replicate};
 ghost use Rattle.encode_bytes.specs.Inner.{word64_from};
 ghost use Rattle.encode_bytes.specs.Places.{put};

@@ -1,5 +1,6 @@
 // A machine as 341 bytes.
 #![tactic(auto)]
+
 ghost use Rattle.std.specs.Prelude.{◌≡◌, [], ◌∷◌, ◌+◌, ◌≤◌, length, get_or, drop};
 ghost use Rattle.theory_views.specs.Views.{view_at};
 ghost use Rattle.program.specs.File.{byte_at};

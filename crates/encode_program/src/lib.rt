@@ -1,5 +1,6 @@
 // A program as 487 bytes.
 #![tactic(auto)]
+
 ghost use Rattle.std.specs.Prelude.{◌≡◌, ◌+◌, ◌≤◌, length, get_or, drop};
 ghost use Rattle.program.specs.Program.{no_condition, instruction_at, code_of};
 ghost use Rattle.encode_bytes.specs.Lists.{joined, entries};

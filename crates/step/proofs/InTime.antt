@@ -223,5 +223,5 @@ in_time p {x} r k e =
     let po = program_ok p f.formed.0 in
     let mo = (machine_iff p po.few_threads x).0 f.formed.1 in
     let q = late f.instr x.memory k.a s f.by_rule in
-    let w = backed p r i f.in_program k.a (late_out f.instr _ k.a s q) in
+    let w = backed p r i f.in_program k.a (late_out f.instr (message_at x.memory k.a) k.a s q) in
     late_ends f.instr f.at w.1 (mo.states i f.in_program).locations (subst (λ (y : Message). Late y k.a s f.instr) (sym w.2) q) w.3

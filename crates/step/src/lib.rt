@@ -1,5 +1,6 @@
 // One step of the machine: refused with a number and the machine as it came in, or taken with the next machine.
 #![tactic(auto)]
+
 mod checked;
 
 ghost use Rattle.std.specs.Prelude.{◌≡◌, ◌+◌, ◌^◌, ◌<◌, ◌≤◌};

@@ -1,5 +1,6 @@
 // Complete, and the question asked at the end.
 #![tactic(auto)]
+
 ghost use Rattle.std.specs.Prelude.{◌≡◌, ◌&&◌, ◌≤◌, eqb};
 ghost use Rattle.machine.specs.Inner.{Formed};
 ghost use Rattle.step.specs.Outcome.{complete, last_value, question_holds, asked};

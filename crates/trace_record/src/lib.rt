@@ -1,5 +1,6 @@
 // The six bytes of a step, both ways: the mark 53 54 and its kind, thread, a and b.
 #![tactic(auto)]
+
 ghost use Rattle.std.specs.Prelude.{◌≡◌, ◌+◌, ◌≤◌, length};
 ghost use Rattle.encode_bytes.specs.Places.{put};
 ghost use Rattle.trace_record.specs.Inner.{marked_at, step_at};

@@ -1,5 +1,6 @@
 // Replay: the records of a trace file are taken one by one on the machine of a program file; the first refusal ends it.
 #![tactic(auto)]
+
 ghost use Rattle.std.specs.Prelude.{◌≡◌, List, ℕ, ◌*◌};
 ghost use Rattle.program.specs.Program.{no_program};
 ghost use Rattle.program.specs.File.{refused};
