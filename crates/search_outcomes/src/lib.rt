@@ -1,6 +1,7 @@
 // Outcomes in bytes that are lent: rows of 52 or 56 bytes, ascending, each the 48 bytes of an outcome and its place in four or eight.
 // Each outcome has one row, with the place at which it was met first.
 #![tactic(auto)]
+
 ghost use Rattle.std.specs.Prelude.{◌≡◌, ◌++◌, ◌+◌, ◌-◌, ◌≤◌, length, take, drop, replicate};
 ghost use Rattle.machine.specs.State.{thread_of};
 ghost use Rattle.step.specs.Outcome.{smaller};

@@ -105,7 +105,7 @@ kept_run i {h} {k} {m} {m'} {s} q z d (own x w s' g gw few e r) =
     let o = own_carried q (λ y. omega arith) 0 i s x w gw (effect x (append m' w) (append m' w).count (add_promise (append m' w) s) s' e) in
     let room : m.count < 16 = omega arith in
     own x o.0 s' g o.1 room (executes o.3)
-    (kept_run i o.2 (hole_stays m' w (positive h k m s d) (omega arith) z) (open_own h k m s d room (own_effect i m o.0 s o.1 o.3)) r)
+    (kept_run i {m = append m o.0} o.2 (hole_stays m' w (positive h k m s d) (omega arith) z) (open_own h k m s d room (own_effect i m o.0 s o.1 o.3)) r)
 
 -- EVERY PROMISE REACHED CAN BE KEPT: a promise (l, v) that the exploration reaches leaves the thread certified
 pub reached_law : (c : Code) (i l v : ℕ) (m : Memory) (s : Thread) → Sound m s → v < 256 → m.count < 16

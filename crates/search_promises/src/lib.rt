@@ -1,6 +1,7 @@
 // Promises by exploration: the runs of a thread alone, on a memory with one message more that no load can read, say which stores can
 // fulfil a promise there and leave the thread certified.
 #![tactic(auto)]
+
 ghost use Rattle.std.specs.Prelude.{◌≡◌, cond, ◌<◌};
 ghost use Rattle.certify_runs.specs.Inner.{Ready};
 ghost use Rattle.certify_sought.specs.Numbers.{Twice, LeastOrTwo};

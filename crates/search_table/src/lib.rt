@@ -2,6 +2,7 @@
 // eight, low byte first. A slot with count 0 is free. A machine has one slot, by a hash of its bytes; a new entry takes the place of
 // the old one.
 #![tactic(auto)]
+
 ghost use Rattle.std.specs.Prelude.{true, ◌≡◌, ℕ, ◌+◌, ◌*◌, ◌<◌, ◌≤◌, length, get_or, replicate};
 ghost use Rattle.search_table.specs.Table.{slot_with, Sought};
 

@@ -7,13 +7,17 @@ use native.Mathlib.Omega.{arith}
 use borrow.Author.Tests.{eqb-true}
 use Rattle.search_table.proofs.Counting.{Counting, counting_none, counting_equal, counting_other}
 use Rattle.search_table.proofs.same.Goals as goal
+use Rattle.search_table.proofs.same.Goals.{then-table-at, else-table-at}
 
 pub loop-k-init : goal.loop-k-init
 loop-k-init c = counting_none
 
 pub loop-k-preserved : goal.loop-k-preserved
 loop-k-preserved c =
-    ⊎_elim (λ w. counting_equal c.loop-k.invariant c.loop-k-test.true w.0.taken w.1) (λ w. counting_other c.loop-k.invariant c.loop-k-test.true w.1) c.if-table-at.branch
+    elim c.if-table-at.branch [
+      | then-table-at w ↦ counting_equal c.loop-k.invariant c.loop-k-test.true w.if-table-at.true w.n-is
+      | else-table-at w ↦ counting_other c.loop-k.invariant c.loop-k-test.true w.n-is
+    ]
 
 pub returns : goal.returns
 returns c =
