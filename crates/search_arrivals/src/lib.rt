@@ -1,5 +1,6 @@
 // What is asked at a machine that the search comes to: the budget, the end, and the table of machines that are known.
 #![tactic(auto)]
+
 ghost use Rattle.std.specs.Prelude.{◌≡◌};
 ghost use Rattle.machine.specs.Inner.{Formed};
 ghost use Rattle.step.specs.Outcome.{complete, question_holds};

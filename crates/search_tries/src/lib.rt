@@ -1,6 +1,7 @@
 // The next steps of one thread that are worth a try, by their number: 0 to 16 execute at that time, from 17 on promise
 // location l with value v as 17 + 256 · l + v.
 #![tactic(auto)]
+
 pub mod threads;
 
 ghost use Rattle.std.specs.Prelude.{◌≡◌, ◌+◌, ◌≤◌, ◌<◌};

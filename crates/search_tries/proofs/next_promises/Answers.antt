@@ -1,13 +1,14 @@
 -- `search_tries::next_promises` meets its contract.
 -- Assumes nothing.
-use mathlib.Core.Path.{refl}
+use borrow.Author.Tests.{not-true}
+use mathlib.Core.Path.{refl, sym, ◌∙◌}
 use native.Mathlib.Omega.{arith}
 use Rattle.machine.proofs.Cases.{was_false}
 use Rattle.search_tries.proofs.Worth.{none_promised, next_full, one_explored, two_explored}
 use Rattle.search_tries.proofs.next_promises.Goals as goal
 
 pub returns-then-not-t : goal.returns-then-not-t
-returns-then-not-t c = none_promised _ _ _ _ c.requires.1 _ (sym refl ∙ c.if-not-t.true)
+returns-then-not-t c = none_promised _ _ _ _ c.requires.1 _ (not-true _ c.if-not-t.true)
 
 pub returns-then-m-ge16 : goal.returns-then-m-ge16
 returns-then-m-ge16 c = next_full _ _ _ _ c.if-m-ge16.true

@@ -13,12 +13,12 @@ returns-then-is_empty c = took_settles _ _ _ _ _ _ _ c.took.ensures (settle_free
 
 pub returns-then-found-eq0 : goal.returns-then-found-eq0
 returns-then-found-eq0 c =
-    took_settles _ _ _ _ _ _ _ c.took-then-found-eq0.ensures (found_settles _ _ _ _ _ (rw c.certified.ensures at c.search_runs-found.ensures.0) c.if-found-eq0.true) c.requires.3
+    took_settles _ _ _ _ _ _ _ c.took-then-found-eq0.ensures (found_settles _ _ _ _ _ (rw c.certified.ensures at c.search_runs-found.ensures.found) c.if-found-eq0.true) c.requires.3
 
 pub narrowed-requires : goal.narrowed-requires
 narrowed-requires c = let l = effect_time (effect _ _ _ _ _ c.requires.2) in let h = c.requires.0.room in omega arith
 
 pub returns : goal.returns
 returns c =
-    let f = (rw c.certified.ensures at c.search_runs-found.ensures.0) in
+    let f = (rw c.certified.ensures at c.search_runs-found.ensures.found) in
     (lost_settles _ _ _ _ _ f c.if-found-eq0.false, narrowed_worth _ _ _ _ c.requires.1 c.requires.0.room _ _ _ c.requires.2 _ f c.if-found-eq0.false _ _ c.requires.3 c.narrowed.ensures)
