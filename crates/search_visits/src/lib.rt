@@ -1,5 +1,6 @@
 // The visits: a state, then each state that an accepted step leads to. The trace is written on the way back.
 #![tactic(auto)]
+
 ghost use Rattle.search_table.specs.Table.{EverySlot};
 ghost use Rattle.search_arrivals.specs.Visits.{visiting, Reports, Visitable, Known, Opens};
 
