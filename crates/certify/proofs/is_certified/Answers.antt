@@ -1,7 +1,6 @@
 -- `certify::is_certified` meets its contract.
 -- Assumes nothing.
 use Rattle.certify.proofs.Reaching.{found_certified}
-use borrow.Author.Rules.{rules}
 use Rattle.certify.proofs.is_certified.Goals as goal
 
 pub two_reached-requires : goal.two_reached-requires

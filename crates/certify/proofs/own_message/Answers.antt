@@ -1,6 +1,5 @@
 -- `certify::own_message` meets its contract.
 -- Assumes nothing.
-use borrow.Author.Rules.{rules}
 use Rattle.certify.proofs.own_message.Goals as goal
 
 pub returns : goal.returns

@@ -1,7 +1,6 @@
 -- `certify::show` meets its contract: where an empty promise set is met, its first run is shown.
 -- Assumes nothing.
 use mathlib.Core.Path.{◌∙◌}
-use borrow.Author.Rules.{rules}
 use Rattle.certify.proofs.Asked.{show_none, show_run}
 use Rattle.certify.proofs.show.Goals as goal
 

@@ -1,13 +1,8 @@
 -- `certify_ahead::fewer_stores` meets its contract.
 -- Assumes nothing.
 use mathlib.Core.Path.{◌≡◌}
-use Prim.Native.Nat.{◌+◌, ◌-◌, ◌≤◌, ◌<◌}
-use native.Mathlib.Omega.{arith}
-use lib.ListN.{length}
-use borrow.Author.Rules.{rules}
+use Prim.Native.Nat.{◌+◌, ◌-◌, ◌≤◌}
 use Rattle.program.specs.Counts.{stores_from}
-use Rattle.program.proofs.Arrays.{length_mapped, get_d_any}
-use Rattle.certify_ahead.proofs.Stores.{counts_one, counted_more, counted_all, counted_enough}
 use Rattle.certify_ahead.proofs.fewer_stores.Given as goal
 
 abbrev pub invariant-loop-at : goal.invariant-loop-at

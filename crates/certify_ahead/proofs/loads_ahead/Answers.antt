@@ -1,13 +1,12 @@
 -- `certify_ahead::loads_ahead` meets its contract.
 -- Assumes nothing.
 use mathlib.Core.Path.{◌≡◌, subst}
-use Prim.Native.Nat.{◌-◌, ◌≤◌, ◌<◌}
+use Prim.Native.Nat.{◌<◌}
 use native.Mathlib.Omega.{arith}
 use lib.Dec.{T}
 use lib.ListN.{length}
-use borrow.Author.Rules.{rules}
 use Rattle.program.proofs.Arrays.{length_mapped, get_d_any}
-use Rattle.certify_ahead.proofs.Loads.{NoneUpTo, none_more, none_all}
+use Rattle.certify_ahead.proofs.Loads.{none_more, none_all}
 use Rattle.certify_ahead.proofs.loads_ahead.Goals as goal
 
 pub loop-k-init : goal.loop-k-init

@@ -1,13 +1,7 @@
 -- `certify_ahead::loads_ahead` meets its contract.
 -- Assumes nothing.
-use mathlib.Core.Path.{◌≡◌, subst}
-use Prim.Native.Nat.{◌-◌, ◌≤◌, ◌<◌}
-use native.Mathlib.Omega.{arith}
-use lib.Dec.{T}
-use lib.ListN.{length}
-use borrow.Author.Rules.{rules}
-use Rattle.program.proofs.Arrays.{length_mapped, get_d_any}
-use Rattle.certify_ahead.proofs.Loads.{NoneUpTo, none_more, none_all}
+use Prim.Native.Nat.{◌-◌, ◌≤◌}
+use Rattle.certify_ahead.proofs.Loads.{NoneUpTo}
 use Rattle.certify_ahead.proofs.loads_ahead.Given as goal
 
 abbrev pub invariant-loop-k : goal.invariant-loop-k

@@ -1,9 +1,8 @@
 -- `certify_cares::agrees` meets its contract: one case for each return.
 -- Assumes nothing.
 use mathlib.Core.Path.{refl}
-use borrow.Author.Tests.{not-true, not-false, eqb-false}
+use borrow.Author.Tests.{not-true, eqb-false}
 use Rattle.certify_cares.specs.Cares.{same, alike}
-use borrow.Author.Rules.{rules}
 use Rattle.certify_cares.proofs.agrees.Goals as goal
 
 pub returns-then-x-y : goal.returns-then-x-y

@@ -6,7 +6,6 @@ use native.Mathlib.Omega.{arith}
 use lib.Dec.{T, leb→le, ltb→lt}
 use borrow.Author.Tests.{eqb-false, not-true}
 use Rattle.certify_cares.specs.Cares.{free, other, above, below}
-use borrow.Author.Rules.{rules}
 use Rattle.certify_cares.proofs.allows.Goals as goal
 
 pub returns-then-code-eq0 : goal.returns-then-code-eq0

@@ -7,7 +7,6 @@ use Rattle.machine.specs.Rules.{address}
 use Rattle.certify_cares.specs.Cares.{Marked}
 use Rattle.certify_lost.specs.Lost.{InRange}
 use Rattle.certify_lost.proofs.Losing.{and-not, no_store, store_late, store_elsewhere, store_other}
-use borrow.Author.Rules.{rules}
 use Rattle.certify_lost.proofs.barred.Goals as goal
 
 pub returns-then-w-store_pre : goal.returns-then-w-store_pre

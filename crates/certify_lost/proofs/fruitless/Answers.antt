@@ -1,7 +1,6 @@
 -- `certify_lost::fruitless` meets its contract.
 -- Assumes nothing.
 use mathlib.Core.Logic.{inl, inr}
-use borrow.Author.Rules.{rules}
 use Rattle.certify_lost.proofs.fruitless.Goals as goal
 
 pub lost-r-requires : goal.lost-r-requires

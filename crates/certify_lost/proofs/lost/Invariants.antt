@@ -1,13 +1,7 @@
 -- `certify_lost::lost` meets its contract.
 -- Assumes nothing.
-use mathlib.Core.Path.{refl, sym, subst, ◌∙◌}
-use mathlib.Core.Logic.{⊎_elim}
 use Prim.Native.Nat.{◌-◌}
-use native.Mathlib.Omega.{arith}
-use lib.Dec.{T}
-use borrow.Author.Rules.{rules}
-use borrow.Author.Tests.{not-true, not-false}
-use Rattle.certify_lost.proofs.Losing.{no_store, certainly, Passed, passed_none, passed_more, passed_all}
+use Rattle.certify_lost.proofs.Losing.{Passed}
 use Rattle.certify_lost.proofs.lost.Given as goal
 
 abbrev pub invariant-loop-at : goal.invariant-loop-at

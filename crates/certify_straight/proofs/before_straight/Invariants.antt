@@ -1,10 +1,9 @@
 -- `certify_straight::before_straight` meets its contract: step by step back, the last first.
 -- Assumes nothing.
-use Rattle.std.proofs.Common.{◌≡◌, ◌≤◌, length, refl, arith}
-use Rattle.program.proofs.Arrays.{length_mapped}
+use Rattle.std.proofs.Common.{◌≡◌, ◌≤◌, length}
 use Rattle.certify_runs.specs.Below.{Code, Thread}
 use Rattle.certify_straight.specs.Straight.{Walked}
-use Rattle.certify_straight.proofs.Walking.{Back, one_compute_back, one_branch_back, one_fence_back, back_start, back_end}
+use Rattle.certify_straight.proofs.Walking.{Back}
 use Rattle.certify_straight.proofs.before_straight.Given as goal
 
 abbrev pub invariant-loop-left : goal.invariant-loop-left

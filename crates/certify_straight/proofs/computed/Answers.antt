@@ -1,6 +1,5 @@
 -- `certify_straight::computed` meets its contract.
 -- Assumes nothing.
-use Rattle.std.proofs.Common.{rules}
 use Rattle.certify_straight.proofs.computed.Goals as goal
 
 pub returns : goal.returns

@@ -1,6 +1,6 @@
 -- `certify_straight::halts` meets its contract.
 -- Assumes nothing.
-use Rattle.std.proofs.Common.{sym, ap, arith, rules}
+use Rattle.std.proofs.Common.{sym, ap}
 use Rattle.program.specs.Program.{instruction_at}
 use Rattle.certify_straight.proofs.Plain.{halts_op}
 use Rattle.certify_straight.proofs.Walking.{goes_op}

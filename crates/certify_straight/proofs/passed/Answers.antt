@@ -1,6 +1,6 @@
 -- `certify_straight::passed` meets its contract: one case for each return.
 -- Assumes nothing.
-use Rattle.std.proofs.Common.{refl, arith, rules, eq-eqb, ne_eqb}
+use Rattle.std.proofs.Common.{refl, arith, eq-eqb, ne_eqb}
 use Rattle.certify_straight.proofs.passed.Goals as goal
 
 pub returns-then-x-y : goal.returns-then-x-y

@@ -1,6 +1,6 @@
 -- `certify_straight::result` meets its contract: one case for each mode.
 -- Assumes nothing.
-use Rattle.std.proofs.Common.{arith, rules, eq-eqb, ne_eqb}
+use Rattle.std.proofs.Common.{arith, eq-eqb, ne_eqb}
 use Rattle.program.specs.Program.{compute_mode}
 use Rattle.machine.specs.Rules.{combine}
 use Rattle.certify_straight.proofs.result.Goals as goal

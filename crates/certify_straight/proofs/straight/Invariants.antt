@@ -1,9 +1,7 @@
 -- `certify_straight::straight` meets its contract: one case for each kind of instruction.
 -- Assumes nothing.
-use Rattle.std.proofs.Common.{◌-◌, refl, arith, rules}
-use Rattle.program.proofs.Arrays.{length_mapped}
-use Rattle.certify_straight.proofs.Plain.{halts_end, halts_op}
-use Rattle.certify_straight.proofs.Walking.{op_rest, On, Turn, turn_compute, turn_past, turn_lands, turn_branch, turn_fork, turn_fence, on_start, on_gone}
+use Rattle.std.proofs.Common.{◌-◌}
+use Rattle.certify_straight.proofs.Walking.{On}
 use Rattle.certify_straight.proofs.straight.Given as goal
 
 abbrev pub invariant-loop-n : goal.invariant-loop-n

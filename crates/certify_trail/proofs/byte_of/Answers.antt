@@ -1,7 +1,6 @@
 -- `certify_trail::byte_of` meets its contract: one case for each byte.
 -- Assumes nothing.
 use mathlib.Core.Path.{◌≡◌}
-use borrow.Author.Rules.{rules}
 use Rattle.certify_trail.specs.Trail.{byte_of}
 use Rattle.certify_trail.proofs.Bytes.{highest}
 use Rattle.certify_trail.proofs.byte_of.Goals as goal

@@ -1,12 +1,6 @@
 -- `certify_trail::passed` meets its contract: the loop puts one step after the other before those that are written.
 -- Assumes nothing.
-use mathlib.Core.List.{List}
-use Prim.Native.Nat.{◌+◌, ◌≤◌}
-use lib.ListN.{length}
-use Rattle.certify_runs.specs.declared.RunStep.{RunStep}
-use Rattle.certify_trail.specs.Trail.{Trail}
-use Rattle.certify_trail.proofs.Written.{Passed, passed_none, passed_more, passed_all}
-use borrow.Author.Rules.{rules}
+use Rattle.certify_trail.proofs.Written.{passed_none, passed_more, passed_all}
 use Rattle.certify_trail.proofs.passed.Goals as goal
 
 pub loop-left-init : goal.loop-left-init

@@ -5,8 +5,7 @@ use Prim.Native.Nat.{◌+◌, ◌≤◌}
 use lib.ListN.{length}
 use Rattle.certify_runs.specs.declared.RunStep.{RunStep}
 use Rattle.certify_trail.specs.Trail.{Trail}
-use Rattle.certify_trail.proofs.Written.{Passed, passed_none, passed_more, passed_all}
-use borrow.Author.Rules.{rules}
+use Rattle.certify_trail.proofs.Written.{Passed}
 use Rattle.certify_trail.proofs.passed.Given as goal
 
 abbrev pub invariant-loop-left : goal.invariant-loop-left

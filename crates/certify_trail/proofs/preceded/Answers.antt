@@ -3,7 +3,6 @@
 use mathlib.Core.Path.{◌≡◌, refl}
 use native.Mathlib.Omega.{arith}
 use lib.ListN.{length}
-use borrow.Author.Rules.{rules}
 use Rattle.program.proofs.Arrays.{length_mapped}
 use Rattle.certify_trail.proofs.Written.{preceding}
 use Rattle.certify_trail.proofs.preceded.Goals as goal

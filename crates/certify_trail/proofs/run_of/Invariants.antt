@@ -1,10 +1,7 @@
 -- `certify_trail::run_of` meets its contract: the loop takes one step after the other, the first one from the end of the bytes.
 -- Assumes nothing.
-use mathlib.Core.Logic.{⊎_elim}
 use Prim.Native.Nat.{◌-◌}
-use native.Mathlib.Omega.{arith}
-use Rattle.certify_runs.specs.Values.{entries}
-use Rattle.certify_trail.proofs.Read.{Reading, reading_none, reading_more, reading_all}
+use Rattle.certify_trail.proofs.Read.{Reading}
 use Rattle.certify_trail.proofs.run_of.Given as goal
 
 abbrev pub invariant-loop-n : goal.invariant-loop-n

@@ -2,7 +2,6 @@
 -- Assumes nothing.
 use mathlib.Core.Path.{◌≡◌}
 use native.Mathlib.Omega.{arith}
-use borrow.Author.Rules.{rules}
 use Rattle.certify_trail.proofs.Bytes.{highest, put_0, put_1, put_2, put_3}
 use Rattle.certify_trail.proofs.with_byte.Goals as goal
 

@@ -1,7 +1,6 @@
 -- `certify_tried::appends` meets its contract: one case for each instruction.
 -- Assumes nothing.
 use mathlib.Core.Path.{ap}
-use borrow.Author.Rules.{rules}
 use Rattle.certify_tried.proofs.Noting.{stores, appends_full, appends_fit, appends_not}
 use Rattle.certify_tried.proofs.appends.Goals as goal
 

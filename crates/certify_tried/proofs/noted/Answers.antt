@@ -1,7 +1,6 @@
 -- `certify_tried::noted` meets its contract: one case for each instruction.
 -- Assumes nothing.
 use mathlib.Core.Path.{ap}
-use borrow.Author.Rules.{rules}
 use Rattle.certify_sought.proofs.Asking.{is_tried}
 use Rattle.certify_tried.proofs.Noting.{noted_load, noted_store, noted_other}
 use Rattle.certify_tried.proofs.noted.Goals as goal

@@ -1,10 +1,8 @@
 -- `certify_vain::doubled` meets its contract.
 -- Assumes nothing.
 use mathlib.Core.Path.{sym, subst}
-use Prim.Native.Nat.{◌-◌, ◌<◌}
 use native.Mathlib.Omega.{arith}
 use lib.Dec.{T}
-use borrow.Author.Rules.{rules}
 use Rattle.certify_runs.proofs.Law.{read_none, read_value_lem}
 use Rattle.certify_vain.proofs.Tries.{doubled_here}
 use Rattle.certify_vain.proofs.doubled.Goals as goal

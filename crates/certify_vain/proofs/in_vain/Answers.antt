@@ -3,7 +3,6 @@
 use mathlib.Core.Path.{refl}
 use borrow.Author.Tests.{eqb-false}
 use Rattle.certify_vain.proofs.Tries.{load_vain}
-use borrow.Author.Rules.{rules}
 use Rattle.certify_vain.proofs.in_vain.Goals as goal
 
 pub returns-in-Load : goal.returns-in-Load

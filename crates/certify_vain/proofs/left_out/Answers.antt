@@ -2,7 +2,6 @@
 -- Assumes nothing.
 use mathlib.Core.Path.{sym, subst, ◌∙◌}
 use lib.Dec.{T}
-use borrow.Author.Rules.{rules}
 use Rattle.certify_vain.proofs.Passing.{left_out, left_in}
 use Rattle.certify_vain.proofs.left_out.Goals as goal
 

@@ -2,7 +2,6 @@
 -- Assumes nothing.
 use mathlib.Core.Path.{sym, subst}
 use lib.Dec.{T}
-use borrow.Author.Rules.{rules}
 use Rattle.certify_vain.proofs.no_better.Goals as goal
 
 pub returns-then-care-eq3 : goal.returns-then-care-eq3

@@ -1,7 +1,6 @@
 -- `certify_window::earliest` meets its contract.
 -- Assumes nothing.
 use Rattle.certify_window.proofs.Window.{load_earliest, store_earliest}
-use borrow.Author.Rules.{rules}
 use Rattle.certify_window.proofs.earliest.Goals as goal
 
 pub returns-in-Load : goal.returns-in-Load

@@ -1,6 +1,5 @@
 -- `certify_window::following` meets its contract.
 -- Assumes nothing.
-use borrow.Author.Rules.{rules}
 use Rattle.certify_window.proofs.Window.{load_following, store_following, compute_following, branch_following, fence_following}
 use Rattle.certify_window.proofs.following.Goals as goal
 

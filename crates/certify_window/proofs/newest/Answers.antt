@@ -1,8 +1,6 @@
 -- `certify_window::newest` meets its contract.
 -- Assumes nothing.
-use Prim.Native.Nat.{◌≤◌}
 use native.Mathlib.Omega.{arith}
-use borrow.Author.Rules.{rules}
 use Rattle.certify_window.proofs.newest.Goals as goal
 
 pub returns-then-messages-t : goal.returns-then-messages-t

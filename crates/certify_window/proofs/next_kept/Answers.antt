@@ -1,8 +1,6 @@
 -- `certify_window::next_kept` meets its contract.
 -- Assumes nothing.
-use Prim.Native.Nat.{◌-◌}
 use native.Mathlib.Omega.{arith}
-use Rattle.certify_window.specs.Window.{NextKept}
 use Rattle.certify_window.proofs.Window.{kept_first, kept_next, kept_none}
 use Rattle.certify_window.proofs.next_kept.Goals as goal
 

@@ -1,6 +1,5 @@
 -- `file_cursor::fault` meets its contract.
 -- Assumes nothing.
-use borrow.Author.Rules.{rules}
 use Rattle.program.proofs.Reading.{marked_short, marked_first, marked_second, marked_right}
 use Rattle.file_cursor.proofs.fault.Goals as goal
 

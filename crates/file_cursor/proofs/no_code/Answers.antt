@@ -1,6 +1,5 @@
 -- `file_cursor::no_code` meets its contract.
 -- Assumes nothing.
-use borrow.Author.Rules.{rules}
 use Rattle.file_cursor.proofs.no_code.Goals as goal
 
 pub returns : goal.returns

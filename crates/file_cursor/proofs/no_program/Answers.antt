@@ -1,6 +1,5 @@
 -- `file_cursor::no_program` meets its contract.
 -- Assumes nothing.
-use borrow.Author.Rules.{rules}
 use Rattle.file_cursor.proofs.no_program.Goals as goal
 
 pub returns : goal.returns

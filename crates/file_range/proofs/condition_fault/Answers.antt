@@ -1,8 +1,7 @@
 -- `file_range::condition_fault` meets its contract.
 -- Assumes nothing.
 use mathlib.Core.Path.{sym, ◌∙◌}
-use borrow.Author.Rules.{rules}
-use borrow.Author.Tests.{le-leb, lt-leb, not-true, not-false}
+use borrow.Author.Tests.{le-leb, lt-leb}
 use Rattle.program.specs.Inner.{first_failing}
 use Rattle.file_range.proofs.condition_fault.Goals as goal
 

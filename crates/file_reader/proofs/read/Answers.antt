@@ -1,6 +1,5 @@
 -- `file_reader::read` meets its contract.
 -- Assumes nothing.
-use borrow.Author.Rules.{rules}
 use Rattle.file_cursor.proofs.Cursors.{header_sound, body_sound, whole}
 use Rattle.file_reader.proofs.read.Goals as goal
 

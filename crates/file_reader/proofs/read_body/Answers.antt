@@ -1,6 +1,5 @@
 -- `file_reader::read_body` meets its contract.
 -- Assumes nothing.
-use borrow.Author.Rules.{rules}
 use Rattle.program.specs.File.{read_body}
 use Rattle.file_cursor.proofs.Cursors.{as_read, stays, going_in, body_stays, body_on}
 use Rattle.file_reader.proofs.read_body.Goals as goal

@@ -1,7 +1,6 @@
 -- `file_reader::read_condition` meets its contract.
 -- Assumes nothing.
 use native.Mathlib.Omega.{arith}
-use borrow.Author.Rules.{rules}
 use Rattle.file_cursor.proofs.Cursors.{as_read}
 use Rattle.program.proofs.Reading.{fault_fits, condition_fault, condition_8, condition_on}
 use Rattle.file_reader.proofs.read_condition.Goals as goal

@@ -1,11 +1,9 @@
 -- `file_reader::read_conditions` meets its contract.
 -- Assumes nothing.
 use Prim.Native.Nat.{◌-◌}
-use native.Mathlib.Omega.{arith}
-use borrow.Author.Rules.{rules}
 use Rattle.file_cursor.specs.Cursors.{reading_of}
-use Rattle.program.specs.File.{reading, read_condition}
-use Rattle.file_cursor.proofs.Cursors.{as_read, sound_of, going_in, Ahead, ahead_start, ahead_stops, ahead_turn, ahead_end, from_start, condition_within}
+use Rattle.program.specs.File.{read_condition}
+use Rattle.file_cursor.proofs.Cursors.{Ahead}
 use Rattle.file_reader.proofs.read_conditions.Given as goal
 
 abbrev pub invariant-loop-k : goal.invariant-loop-k

@@ -1,7 +1,6 @@
 -- `file_reader::read_end` meets its contract.
 -- Assumes nothing.
 use mathlib.Core.Path.{sym, ap, ◌∙◌}
-use borrow.Author.Rules.{rules}
 use Rattle.program.specs.Answers.{file_read}
 use Rattle.file_cursor.proofs.Cursors.{end_stopped, end_good, end_9}
 use Rattle.file_reader.proofs.read_end.Goals as goal

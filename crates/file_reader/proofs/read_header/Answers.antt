@@ -1,7 +1,6 @@
 -- `file_reader::read_header` meets its contract.
 -- Assumes nothing.
 use native.Mathlib.Omega.{arith}
-use borrow.Author.Rules.{rules}
 use Rattle.file_cursor.proofs.Cursors.{as_read}
 use Rattle.program.proofs.Reading.{fault_fits, header_fault, header_3, header_none, header_many, header_on}
 use Rattle.file_reader.proofs.read_header.Goals as goal

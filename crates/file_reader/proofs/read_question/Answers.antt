@@ -2,7 +2,6 @@
 -- Assumes nothing.
 use mathlib.Core.Path.{ap, ◌∙◌}
 use native.Mathlib.Omega.{arith}
-use borrow.Author.Rules.{rules}
 use Rattle.program.specs.File.{read_question}
 use Rattle.program.specs.declared.Program.{Program}
 use Rattle.file_cursor.proofs.Cursors.{as_read, stays, going_in, going_is, question_stays}

@@ -1,6 +1,5 @@
 -- `file_reader::refuse` meets its contract.
 -- Assumes nothing.
-use borrow.Author.Rules.{rules}
 use Rattle.file_reader.proofs.refuse.Goals as goal
 
 pub returns : goal.returns

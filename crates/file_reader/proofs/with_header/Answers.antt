@@ -1,6 +1,5 @@
 -- `file_reader::with_header` meets its contract.
 -- Assumes nothing.
-use borrow.Author.Rules.{rules}
 use Rattle.file_reader.proofs.with_header.Goals as goal
 
 pub returns : goal.returns

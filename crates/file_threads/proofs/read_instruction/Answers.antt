@@ -1,7 +1,6 @@
 -- `file_threads::read_instruction` meets its contract.
 -- Assumes nothing.
 use native.Mathlib.Omega.{arith}
-use borrow.Author.Rules.{rules}
 use Rattle.file_cursor.proofs.Cursors.{as_read}
 use Rattle.program.proofs.Reading.{fault_fits, instruction_fault, instruction_6, instruction_7, instruction_on, store_few}
 use Rattle.file_threads.proofs.read_instruction.Goals as goal

@@ -3,7 +3,6 @@
 use mathlib.Core.Path.{ap}
 use Prim.Native.Nat.{◌+◌}
 use native.Mathlib.Omega.{arith}
-use borrow.Author.Rules.{rules}
 use Rattle.program.specs.declared.Program.{Program}
 use Rattle.file_cursor.proofs.Cursors.{as_read}
 use Rattle.program.proofs.Reading.{fault_fits, thread_fault, thread_10, thread_5, thread_on}

@@ -1,11 +1,9 @@
 -- `file_threads::read_threads` meets its contract.
 -- Assumes nothing.
 use Prim.Native.Nat.{◌-◌}
-use native.Mathlib.Omega.{arith}
-use borrow.Author.Rules.{rules}
 use Rattle.file_cursor.specs.Cursors.{reading_of}
-use Rattle.program.specs.File.{reading, read_thread}
-use Rattle.file_cursor.proofs.Cursors.{as_read, sound_of, going_in, Ahead, ahead_start, ahead_stops, ahead_turn, ahead_end, from_start, thread_within}
+use Rattle.program.specs.File.{read_thread}
+use Rattle.file_cursor.proofs.Cursors.{Ahead}
 use Rattle.file_threads.proofs.read_threads.Given as goal
 
 abbrev pub invariant-loop-i : goal.invariant-loop-i

@@ -1,6 +1,5 @@
 -- `file_threads::with_instruction` meets its contract.
 -- Assumes nothing.
-use borrow.Author.Rules.{rules}
 use Rattle.file_threads.proofs.with_instruction.Goals as goal
 
 pub returns : goal.returns

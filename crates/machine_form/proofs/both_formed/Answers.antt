@@ -1,7 +1,6 @@
 -- `machine_form::both_formed` meets its contract: a program that fails decides.
 -- Assumes nothing.
 use mathlib.Core.Path.{sym, ◌∙◌}
-use borrow.Author.Rules.{rules}
 use Rattle.machine_form.proofs.both_formed.Goals as goal
 
 pub returns-then-program_formed : goal.returns-then-program_formed

@@ -1,11 +1,7 @@
 -- `machine_form::coherence_test` meets its contract: the loop has tested the first k locations.
 -- Assumes nothing.
 use mathlib.Core.Path.{refl}
-use Prim.Native.Nat.{◌-◌}
-use native.Mathlib.Omega.{arith}
-use lib.Dec.{leb}
-use Rattle.theory_views.specs.Views.{view_at}
-use Rattle.program.proofs.Loops.{Passed, passed_none, passed_more, passed_all}
+use Rattle.program.proofs.Loops.{passed_none, passed_more, passed_all}
 use Rattle.machine_form.proofs.coherence_test.Goals as goal
 
 pub loop-k-init : goal.loop-k-init

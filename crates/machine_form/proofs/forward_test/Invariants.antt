@@ -1,12 +1,10 @@
 -- `machine_form::forward_test` meets its contract: the loop has tested the first k pairs.
 -- Assumes nothing.
-use mathlib.Core.Path.{refl}
 use mathlib.Core.Bool.{◌&&◌}
 use Prim.Native.Nat.{◌-◌}
-use native.Mathlib.Omega.{arith}
 use lib.Dec.{leb}
 use lib.ListN.{get_or}
-use Rattle.program.proofs.Loops.{Passed, passed_none, passed_more, passed_all}
+use Rattle.program.proofs.Loops.{Passed}
 use Rattle.machine.specs.State.{fresh_forward}
 use Rattle.machine_form.proofs.forward_test.Given as goal
 

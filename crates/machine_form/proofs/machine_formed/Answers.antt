@@ -3,7 +3,6 @@
 use mathlib.Core.Path.{◌≡◌, sym, ◌∙◌}
 use mathlib.Core.Bool.{true}
 use lib.ListN.{length}
-use borrow.Author.Rules.{rules}
 use Rattle.program.specs.Tests.{all_of}
 use Rattle.program.proofs.Arrays.{length_mapped}
 use Rattle.program.proofs.Loops.{full}

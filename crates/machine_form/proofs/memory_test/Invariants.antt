@@ -1,17 +1,11 @@
 -- `machine_form::memory_test` meets its contract: the loop has tested the first k entries.
 -- Assumes nothing.
-use mathlib.Core.Path.{◌≡◌}
 use mathlib.Core.Bool.{cond}
 use Prim.Native.Nat.{suc, ◌-◌}
-use native.Mathlib.Omega.{arith}
 use lib.Dec.{ltb}
-use lib.ListN.{length}
-use borrow.Author.Rules.{rules}
-use Rattle.program.proofs.Arrays.{length_mapped}
-use Rattle.program.proofs.Loops.{Passed, passed_none, passed_more, passed_all, full}
+use Rattle.program.proofs.Loops.{Passed}
 use Rattle.machine.specs.State.{message_at}
-use Rattle.machine.specs.WellFormed.{message_test, unused_message, memory_test}
-use Rattle.machine.proofs.Formed.{message_place}
+use Rattle.machine.specs.WellFormed.{message_test, unused_message}
 use Rattle.machine_form.proofs.memory_test.Given as goal
 
 abbrev pub invariant-loop-k : goal.invariant-loop-k

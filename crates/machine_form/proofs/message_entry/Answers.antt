@@ -1,6 +1,5 @@
 -- `machine_form::message_entry` meets its contract: used or not.
 -- Assumes nothing.
-use borrow.Author.Rules.{rules}
 use Rattle.machine_form.proofs.message_entry.Goals as goal
 
 pub returns-then-used : goal.returns-then-used

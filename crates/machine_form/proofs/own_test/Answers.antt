@@ -1,8 +1,6 @@
 -- `machine_form::own_test` meets its contract: the loop has tested the first k times.
 -- Assumes nothing.
-use Prim.Native.Nat.{suc, ◌-◌}
-use native.Mathlib.Omega.{arith}
-use Rattle.program.proofs.Loops.{Passed, passed_none, passed_more, passed_all}
+use Rattle.program.proofs.Loops.{passed_none, passed_more, passed_all}
 use Rattle.machine.specs.WellFormed.{own_test}
 use Rattle.machine.proofs.Formed.{message_place}
 use Rattle.machine_form.proofs.own_test.Goals as goal

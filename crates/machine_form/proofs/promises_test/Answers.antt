@@ -1,6 +1,5 @@
 -- `machine_form::promises_test` meets its contract: a shift by at most 16 is the power.
 -- Assumes nothing.
-use borrow.Author.Rules.{rules}
 use Rattle.machine_form.proofs.Loops.{shl_one}
 use Rattle.machine_form.proofs.promises_test.Goals as goal
 

@@ -1,11 +1,9 @@
 -- `machine_form::registers_test` meets its contract: the loop has tested the first k registers.
 -- Assumes nothing.
-use mathlib.Core.Path.{refl}
 use Prim.Native.Nat.{◌-◌}
-use native.Mathlib.Omega.{arith}
 use lib.Dec.{leb}
 use lib.ListN.{get_or}
-use Rattle.program.proofs.Loops.{Passed, passed_none, passed_more, passed_all}
+use Rattle.program.proofs.Loops.{Passed}
 use Rattle.machine.specs.State.{fresh_register}
 use Rattle.machine_form.proofs.registers_test.Given as goal
 

@@ -1,6 +1,5 @@
 -- `machine_form::thread_entry` meets its contract: used or not.
 -- Assumes nothing.
-use borrow.Author.Rules.{rules}
 use borrow.Author.Tests.{lt-ltb, le-ltb}
 use Rattle.machine_form.proofs.thread_entry.Goals as goal
 

@@ -1,13 +1,6 @@
 -- `machine_form::threads_test` meets its contract: the loop has tested the first i threads.
 -- Assumes nothing.
-use mathlib.Core.Bool.{cond}
-use Prim.Native.Nat.{◌-◌}
-use native.Mathlib.Omega.{arith}
-use lib.Dec.{ltb}
-use Rattle.program.specs.Program.{code_of}
-use Rattle.program.proofs.Loops.{Passed, passed_none, passed_more, passed_all}
-use Rattle.machine.specs.State.{thread_of}
-use Rattle.machine.specs.WellFormed.{thread_test, unused_thread}
+use Rattle.program.proofs.Loops.{passed_none, passed_more, passed_all}
 use Rattle.machine_form.proofs.threads_test.Goals as goal
 
 pub loop-i-init : goal.loop-i-init

@@ -2,10 +2,9 @@
 -- Assumes nothing.
 use mathlib.Core.Bool.{cond}
 use Prim.Native.Nat.{◌-◌}
-use native.Mathlib.Omega.{arith}
 use lib.Dec.{ltb}
 use Rattle.program.specs.Program.{code_of}
-use Rattle.program.proofs.Loops.{Passed, passed_none, passed_more, passed_all}
+use Rattle.program.proofs.Loops.{Passed}
 use Rattle.machine.specs.State.{thread_of}
 use Rattle.machine.specs.WellFormed.{thread_test, unused_thread}
 use Rattle.machine_form.proofs.threads_test.Given as goal

@@ -1,12 +1,10 @@
 -- `machine_form::unused_registers` meets its contract: the loop has tested the first k registers.
 -- Assumes nothing.
-use mathlib.Core.Path.{refl}
 use mathlib.Core.Bool.{◌&&◌}
 use Prim.Native.Nat.{◌-◌}
-use native.Mathlib.Omega.{arith}
 use lib.Dec.{eqb}
 use lib.ListN.{get_or}
-use Rattle.program.proofs.Loops.{Passed, passed_none, passed_more, passed_all}
+use Rattle.program.proofs.Loops.{Passed}
 use Rattle.machine.specs.State.{fresh_register}
 use Rattle.machine_form.proofs.unused_registers.Given as goal
 

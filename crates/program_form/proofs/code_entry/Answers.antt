@@ -1,6 +1,5 @@
 -- `program_form::code_entry` meets its contract: the code, then its count.
 -- Assumes nothing.
-use borrow.Author.Rules.{rules}
 use Rattle.program.proofs.Loops.{or-cond}
 use Rattle.program_form.proofs.code_entry.Goals as goal
 

@@ -1,9 +1,7 @@
 -- `program_form::code_stores` meets its contract: what the loop has counted and what is left make the whole.
 -- Assumes nothing.
 use Prim.Native.Nat.{◌-◌}
-use native.Mathlib.Omega.{arith}
-use borrow.Author.Rules.{rules}
-use Rattle.program.proofs.Loops.{Counted, counted_none, counted_more, counted_all}
+use Rattle.program.proofs.Loops.{Counted}
 use Rattle.program_form.proofs.code_stores.Given as goal
 
 abbrev pub invariant-loop-k : goal.invariant-loop-k

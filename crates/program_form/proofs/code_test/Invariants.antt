@@ -1,16 +1,11 @@
 -- `program_form::code_test` meets its contract: the loop has tested the first k entries.
 -- Assumes nothing.
-use mathlib.Core.Path.{◌≡◌}
 use mathlib.Core.Bool.{cond}
 use Prim.Native.Nat.{◌-◌}
-use native.Mathlib.Omega.{arith}
 use lib.Dec.{ltb}
-use lib.ListN.{length}
-use borrow.Author.Rules.{rules}
 use Rattle.program.specs.Program.{instruction_at}
-use Rattle.program.specs.WellFormed.{code_test, instruction_test, unused_instruction}
-use Rattle.program.proofs.Arrays.{length_mapped}
-use Rattle.program.proofs.Loops.{full, Passed, passed_none, passed_more, passed_all}
+use Rattle.program.specs.WellFormed.{instruction_test, unused_instruction}
+use Rattle.program.proofs.Loops.{Passed}
 use Rattle.program_form.proofs.code_test.Given as goal
 
 abbrev pub invariant-loop-k : goal.invariant-loop-k

@@ -1,13 +1,6 @@
 -- `program_form::codes_test` meets its contract: the loop has tested the codes of the first i threads.
 -- Assumes nothing.
-use mathlib.Core.Bool.{true, cond, ◌&&◌}
-use Prim.Native.Nat.{◌-◌}
-use native.Mathlib.Omega.{arith}
-use lib.Dec.{eqb, ltb}
-use borrow.Author.Rules.{rules}
-use Rattle.program.specs.Program.{code_of}
-use Rattle.program.specs.WellFormed.{code_test}
-use Rattle.program.proofs.Loops.{Passed, passed_none, passed_more, passed_all}
+use Rattle.program.proofs.Loops.{passed_none, passed_more, passed_all}
 use Rattle.program_form.proofs.codes_test.Goals as goal
 
 pub loop-i-init : goal.loop-i-init

@@ -2,12 +2,10 @@
 -- Assumes nothing.
 use mathlib.Core.Bool.{true, cond, ◌&&◌}
 use Prim.Native.Nat.{◌-◌}
-use native.Mathlib.Omega.{arith}
 use lib.Dec.{eqb, ltb}
-use borrow.Author.Rules.{rules}
 use Rattle.program.specs.Program.{code_of}
 use Rattle.program.specs.WellFormed.{code_test}
-use Rattle.program.proofs.Loops.{Passed, passed_none, passed_more, passed_all}
+use Rattle.program.proofs.Loops.{Passed}
 use Rattle.program_form.proofs.codes_test.Given as goal
 
 abbrev pub invariant-loop-i : goal.invariant-loop-i

@@ -1,6 +1,5 @@
 -- `program_form::condition_entry` meets its contract: asked or not.
 -- Assumes nothing.
-use borrow.Author.Rules.{rules}
 use Rattle.program_form.proofs.condition_entry.Goals as goal
 
 pub returns-then-asked : goal.returns-then-asked

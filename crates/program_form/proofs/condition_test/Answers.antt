@@ -1,7 +1,6 @@
 -- `program_form::condition_test` meets its contract: all pass where none fails.
 -- Assumes nothing.
 use mathlib.Core.Path.{ap, ◌∙◌}
-use borrow.Author.Rules.{rules}
 use lib.Dec.{eqb}
 use Prim.Native.Nat.{ℕ}
 use Rattle.program.specs.WellFormed.{condition_test}

@@ -1,6 +1,5 @@
 -- `program_form::instruction_entry` meets its contract: used or not.
 -- Assumes nothing.
-use borrow.Author.Rules.{rules}
 use borrow.Author.Tests.{lt-ltb, le-ltb}
 use Rattle.program_form.proofs.instruction_entry.Goals as goal
 

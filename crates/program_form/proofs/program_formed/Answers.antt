@@ -3,7 +3,6 @@
 use mathlib.Core.Path.{◌≡◌}
 use mathlib.Core.Bool.{and_assoc, and-true, and-false}
 use lib.ListN.{length}
-use borrow.Author.Rules.{rules}
 use borrow.Author.Tests.{le-leb, lt-leb, eq-eqb}
 use Rattle.program.specs.Tests.{all_of}
 use Rattle.program.specs.WellFormed.{program_test}

@@ -1,11 +1,9 @@
 -- `program_form::program_stores` meets its contract: the loop has added up the first i threads.
 -- Assumes nothing.
-use Prim.Native.Nat.{◌<◌, ◌-◌}
-use native.Mathlib.Omega.{arith}
-use borrow.Author.Rules.{rules}
+use Prim.Native.Nat.{◌-◌}
 use Rattle.program.specs.Program.{code_of}
-use Rattle.program.specs.Counts.{stores_from, stores}
-use Rattle.program.proofs.Loops.{Added, added_none, added_more, added_all}
+use Rattle.program.specs.Counts.{stores_from}
+use Rattle.program.proofs.Loops.{Added}
 use Rattle.program_form.proofs.program_stores.Given as goal
 
 abbrev pub invariant-loop-i : goal.invariant-loop-i

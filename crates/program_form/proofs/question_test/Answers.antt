@@ -1,14 +1,6 @@
 -- `program_form::question_test` meets its contract: the loop has tested the first k entries.
 -- Assumes nothing.
-use mathlib.Core.Bool.{cond}
-use Prim.Native.Nat.{◌-◌}
-use native.Mathlib.Omega.{arith}
-use lib.Dec.{ltb}
-use lib.ListN.{get_or}
-use borrow.Author.Rules.{rules}
-use Rattle.program.specs.Program.{no_condition}
-use Rattle.program.specs.WellFormed.{condition_test, unused_condition}
-use Rattle.program.proofs.Loops.{Passed, passed_none, passed_more, passed_all}
+use Rattle.program.proofs.Loops.{passed_none, passed_more, passed_all}
 use Rattle.program_form.proofs.question_test.Goals as goal
 
 pub loop-k-init : goal.loop-k-init

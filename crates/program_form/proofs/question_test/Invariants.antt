@@ -2,13 +2,11 @@
 -- Assumes nothing.
 use mathlib.Core.Bool.{cond}
 use Prim.Native.Nat.{◌-◌}
-use native.Mathlib.Omega.{arith}
 use lib.Dec.{ltb}
 use lib.ListN.{get_or}
-use borrow.Author.Rules.{rules}
 use Rattle.program.specs.Program.{no_condition}
 use Rattle.program.specs.WellFormed.{condition_test, unused_condition}
-use Rattle.program.proofs.Loops.{Passed, passed_none, passed_more, passed_all}
+use Rattle.program.proofs.Loops.{Passed}
 use Rattle.program_form.proofs.question_test.Given as goal
 
 abbrev pub invariant-loop-k : goal.invariant-loop-k

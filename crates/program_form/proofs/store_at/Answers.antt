@@ -4,7 +4,6 @@ use mathlib.Core.Path.{◌≡◌, ap, ◌∙◌}
 use Prim.Native.Nat.{◌≤◌}
 use native.Mathlib.Omega.{arith}
 use lib.ListN.{length, get_or-eq_default}
-use borrow.Author.Rules.{rules}
 use Rattle.program.specs.Program.{no_instruction}
 use Rattle.program.specs.Counts.{one_store}
 use Rattle.program.proofs.Arrays.{length_mapped}

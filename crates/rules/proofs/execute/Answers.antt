@@ -1,6 +1,6 @@
 -- `rules::execute` meets its contract: one case for each instruction, and for each time of those that touch no memory.
 -- Assumes nothing.
-use Rattle.std.proofs.Common.{arith, rules, eq-eqb, ne_eqb}
+use Rattle.std.proofs.Common.{arith, eq-eqb, ne_eqb}
 use Rattle.machine.specs.Rules.{execute}
 use Rattle.rules.proofs.execute.Goals as goal
 

@@ -1,6 +1,6 @@
 -- `rules::own_store` meets its contract: the promise need not be put in and taken out.
 -- Assumes nothing.
-use Rattle.std.proofs.Common.{◌≡◌, length, arith, rules}
+use Rattle.std.proofs.Common.{◌≡◌, length, arith}
 use Rattle.program.proofs.Arrays.{length_mapped}
 use Rattle.machine.proofs.Cases.{own_store_lem}
 use Rattle.rules.proofs.own_store.Goals as goal

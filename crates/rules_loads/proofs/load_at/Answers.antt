@@ -4,8 +4,7 @@ use mathlib.Core.Path.{sym, subst, ◌∙◌}
 use native.Mathlib.Omega.{arith}
 use lib.Dec.{T}
 use Rattle.machine.proofs.Effects.{readable_time}
-use Rattle.machine.proofs.Cases.{was_false, was_true, load_26, load_27, load_next}
-use borrow.Author.Rules.{rules}
+use Rattle.machine.proofs.Cases.{load_26, load_27, load_next}
 use Rattle.rules_loads.proofs.load_at.Goals as goal
 
 pub returns-then-not-readable : goal.returns-then-not-readable

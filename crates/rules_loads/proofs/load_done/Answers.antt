@@ -1,7 +1,6 @@
 -- `rules_loads::load_done` meets its contract.
 -- Assumes nothing.
 use native.Mathlib.Omega.{arith}
-use borrow.Author.Rules.{rules}
 use Rattle.rules_loads.proofs.load_done.Goals as goal
 
 pub advance-requires : goal.advance-requires

@@ -1,6 +1,5 @@
 -- `rules_loads::load_pre` meets its contract: one case for each mode.
 -- Assumes nothing.
-use borrow.Author.Rules.{rules}
 use Rattle.rules_loads.proofs.load_pre.Goals as goal
 
 pub returns-in-PlainLoad : goal.returns-in-PlainLoad

@@ -1,7 +1,6 @@
 -- `rules_loads::none_newer` meets its contract.
 -- Assumes nothing.
 use Rattle.rules_loads.proofs.Newest.{none_between, none_newest}
-use borrow.Author.Rules.{rules}
 use Rattle.rules_loads.proofs.none_newer.Goals as goal
 
 pub returns-then-v-t : goal.returns-then-v-t

@@ -2,7 +2,6 @@
 -- Assumes nothing.
 use borrow.Author.Tests.{eq-eqb, ne_eqb}
 use Rattle.machine.specs.Rules.{read_value}
-use borrow.Author.Rules.{rules}
 use Rattle.rules_loads.proofs.read_value.Goals as goal
 
 pub returns-then-t-eq0 : goal.returns-then-t-eq0

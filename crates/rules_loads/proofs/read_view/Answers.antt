@@ -1,7 +1,6 @@
 -- `rules_loads::read_view` meets its contract: one case for each arm.
 -- Assumes nothing.
 use borrow.Author.Tests.{eq-eqb, ne_eqb}
-use borrow.Author.Rules.{rules}
 use Rattle.rules_loads.proofs.read_view.Goals as goal
 
 pub returns-then-t-w : goal.returns-then-t-w

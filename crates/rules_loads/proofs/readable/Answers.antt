@@ -2,7 +2,6 @@
 -- Assumes nothing.
 use borrow.Author.Tests.{eq-eqb, ne_eqb, le-leb, lt-leb}
 use Rattle.machine.specs.Rules.{readable}
-use borrow.Author.Rules.{rules}
 use Rattle.rules_loads.proofs.readable.Goals as goal
 
 pub returns-then-t-eq0 : goal.returns-then-t-eq0

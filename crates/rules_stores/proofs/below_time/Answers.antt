@@ -2,7 +2,6 @@
 -- Assumes nothing.
 use borrow.Author.Tests.{lt-ltb, le-ltb}
 use Rattle.machine.specs.Inner.{below_time}
-use borrow.Author.Rules.{rules}
 use Rattle.rules_stores.proofs.below_time.Goals as goal
 
 pub returns-then-store_pre-t : goal.returns-then-store_pre-t

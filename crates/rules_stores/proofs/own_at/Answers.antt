@@ -1,8 +1,7 @@
 -- `rules_stores::own_at` meets its contract: one law of the rules for each answer.
 -- Assumes nothing.
 use mathlib.Core.Path.{sym, ◌∙◌}
-use Rattle.machine.proofs.Cases.{was_false, was_true, own_28, own_next}
-use borrow.Author.Rules.{rules}
+use Rattle.machine.proofs.Cases.{own_28, own_next}
 use Rattle.rules_stores.proofs.own_at.Goals as goal
 
 pub returns-then-not-below_time : goal.returns-then-not-below_time

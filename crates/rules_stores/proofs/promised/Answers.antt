@@ -6,7 +6,6 @@ use lib.Dec.{T}
 use borrow.Author.Tests.{eq-eqb, ne_eqb, le-leb, lt-leb}
 use Rattle.machine.specs.Rules.{promised}
 use Rattle.machine.proofs.Sets.{has_positive}
-use Rattle.machine.proofs.Cases.{was_false, was_true}
 use Rattle.rules_stores.proofs.promised.Goals as goal
 
 pub returns-then-not-has : goal.returns-then-not-has

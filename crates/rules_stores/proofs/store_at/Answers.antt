@@ -2,8 +2,7 @@
 -- Assumes nothing.
 use mathlib.Core.Path.{sym, ◌∙◌}
 use native.Mathlib.Omega.{arith}
-use Rattle.machine.proofs.Cases.{was_false, was_true, promised_in, store_26, store_28, store_next}
-use borrow.Author.Rules.{rules}
+use Rattle.machine.proofs.Cases.{promised_in, store_26, store_28, store_next}
 use Rattle.rules_stores.proofs.store_at.Goals as goal
 
 pub returns-then-not-promised : goal.returns-then-not-promised

@@ -1,7 +1,6 @@
 -- `rules_stores::store_done` meets its contract.
 -- Assumes nothing.
 use native.Mathlib.Omega.{arith}
-use borrow.Author.Rules.{rules}
 use Rattle.rules_stores.proofs.store_done.Goals as goal
 
 pub stored-requires : goal.stored-requires

@@ -1,6 +1,5 @@
 -- `rules_stores::store_pre` meets its contract: one case for each mode.
 -- Assumes nothing.
-use borrow.Author.Rules.{rules}
 use Rattle.rules_stores.proofs.store_pre.Goals as goal
 
 pub returns-in-PlainStore : goal.returns-in-PlainStore

@@ -1,7 +1,6 @@
 -- `rules_stores::stored` meets its contract.
 -- Assumes nothing.
 use native.Mathlib.Omega.{arith}
-use borrow.Author.Rules.{rules}
 use Rattle.rules_stores.proofs.stored.Goals as goal
 
 pub advance-requires : goal.advance-requires

@@ -4,7 +4,6 @@ use borrow.Author.Tests.{eqb-true, eqb-false}
 use mathlib.Core.Path.{refl, sym, ◌∙◌}
 use Rattle.rules_times.proofs.Sets.{after_last, after_none, after_first}
 use native.Mathlib.Omega.{arith}
-use borrow.Author.Rules.{rules}
 use Rattle.rules_times.proofs.after.Goals as goal
 
 pub returns-then-t-eq16 : goal.returns-then-t-eq16

@@ -1,7 +1,6 @@
 -- `rules_times::at_zero` meets its contract.
 -- Assumes nothing.
 use Rattle.rules_times.proofs.Sets.{store_not_at_0, may_be_at_0}
-use borrow.Author.Rules.{rules}
 use Rattle.rules_times.proofs.at_zero.Goals as goal
 
 pub returns-in-Store : goal.returns-in-Store

@@ -4,7 +4,6 @@ use Rattle.rules_times.proofs.Sets.{load_later, store_later, compute_later, bran
 use Rattle.machine.specs.Rules.{address}
 use Prim.Native.Nat.{ℕ, ◌+◌}
 use mathlib.Core.Path.{ap₂, ◌∙◌}
-use borrow.Author.Rules.{rules}
 use Rattle.rules_times.proofs.later_times.Goals as goal
 
 pub returns-in-Load : goal.returns-in-Load

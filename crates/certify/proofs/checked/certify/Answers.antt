@@ -1,8 +1,6 @@
 -- `certify::checked::certify` meets its contract: the refusals in order, then the first certifying run.
 -- Assumes nothing.
 use mathlib.Core.Path.{◌∙◌}
-use borrow.Author.Rules.{rules}
-use borrow.Author.Tests.{not-true, not-false}
 use Rattle.certify_runs.proofs.Ready.{formed, of_four, ready_here}
 use Rattle.certify.proofs.Asked.{certify_20, certify_21, certify_shown}
 use Rattle.certify.proofs.checked.certify.Goals as goal

@@ -2,25 +2,19 @@
 -- Assumes nothing.
 use mathlib.Core.Bool.{not}
 use mathlib.Core.Path.{◌≡◌, refl, sym, ap, subst, ◌∙◌}
-use mathlib.Core.Logic.{inl, ⊎_elim}
-use Prim.Native.Nat.{◌+◌, ◌-◌, ◌*◌, ◌≤◌}
+use mathlib.Core.Logic.{inl}
 use native.Mathlib.Nat.{mod-lt}
 use native.Mathlib.Omega.{arith}
 use lib.Dec.{lit<}
-use lib.ListN.{length}
-use borrow.Author.Tests.{not-false}
-use borrow.Author.Rules.{rules}
 use Rattle.program.proofs.Arrays.{length_mapped}
 use Rattle.program.proofs.Counts.{there}
 use Rattle.machine.proofs.Cases.{ruled_done}
 use Rattle.machine.proofs.Effects.{effect}
-use Rattle.certify_cares.specs.Cares.{Covers}
 use Rattle.certify_runs.specs.Below.{Thread}
 use Rattle.certify_runs.specs.Runs.{done}
 use Rattle.certify_tried.specs.declared.Tried.{Tried}
-use Rattle.certify_sought.specs.Numbers.{certifying, Better, same}
-use Rattle.certify_sought.specs.Aim.{Meets}
-use Rattle.certify.specs.Search.{Missed, Went}
+use Rattle.certify_sought.specs.Numbers.{certifying, same}
+use Rattle.certify.specs.Search.{Went}
 use Rattle.certify_straight.specs.Straight.{here}
 use Rattle.certify_runs.proofs.Ready.{ready_after, ready_as, ready_own, reach_byte}
 use Rattle.certify_straight.proofs.Plain.{leads_ready, walked_leads}
@@ -33,7 +27,6 @@ use Rattle.certify.proofs.Blind.{blind_found}
 use Rattle.certify.proofs.Showing.{unmet_zero, still_unmet, filled_none, shows_none, shows_stop, shows_walked, shows_missed, shows_emptied, shows_resumed, shows_stored, shows_tried, shows_owned}
 use Rattle.certify.proofs.Forking.{fork_other, both_found, ended_further}
 use Rattle.certify.proofs.Reaching.{reach_end, fills_meets, tried_meets, owns_meets, reach_all, straight_kept, straight_better, straight_found, further_by, further_own}
-use Prim.Native.Nat.{ℕ, ◌<◌}
 use Rattle.certify.proofs.reach.+both_ways_filled_keeps_own_reached_search_at_search_runs_try_at_walk_on.Goals as goal
 use Rattle.certify.proofs.reach.+both_ways_filled_keeps_own_reached_search_at_search_runs_try_at_walk_on.Goals.{search_at-then-not-hopeless+else-ended, search_at-else-not-hopeless}
 

@@ -1,7 +1,6 @@
 -- `certify::reach::foreseen` meets its contract.
 -- Assumes nothing.
 use mathlib.Core.Path.{refl}
-use borrow.Author.Rules.{rules}
 use Rattle.certify.proofs.Losing.{fruitless_found}
 use Rattle.certify.proofs.reach.foreseen.Goals as goal
 

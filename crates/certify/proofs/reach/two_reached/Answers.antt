@@ -1,6 +1,5 @@
 -- `certify::reach::two_reached` meets its contract.
 -- Assumes nothing.
-use borrow.Author.Rules.{rules}
 use Rattle.certify.proofs.Reaching.{found_twice}
 use Rattle.certify.proofs.reach.two_reached.Goals as goal
 

@@ -1,8 +1,5 @@
 -- `certify_ahead::steering::passed_over` meets its contract.
 -- Assumes nothing.
-use Prim.Native.Nat.{◌-◌, ◌≤◌}
-use native.Mathlib.Omega.{arith}
-use borrow.Author.Rules.{rules}
 use Rattle.certify_ahead.proofs.steering.passed_over.Goals as goal
 
 pub overflow_sub-k : goal.overflow_sub-k

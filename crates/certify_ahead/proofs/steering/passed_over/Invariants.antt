@@ -1,8 +1,6 @@
 -- `certify_ahead::steering::passed_over` meets its contract.
 -- Assumes nothing.
 use Prim.Native.Nat.{◌-◌, ◌≤◌}
-use native.Mathlib.Omega.{arith}
-use borrow.Author.Rules.{rules}
 use Rattle.certify_ahead.proofs.steering.passed_over.Given as goal
 
 abbrev pub invariant-loop-k : goal.invariant-loop-k

@@ -1,8 +1,6 @@
 -- `certify_ahead::steering::steers` meets its contract.
 -- Assumes nothing.
-use Prim.Native.Nat.{◌-◌, ◌<◌}
 use native.Mathlib.Omega.{arith}
-use borrow.Author.Rules.{rules}
 use Rattle.certify_ahead.proofs.steering.steers.Goals as goal
 
 pub followed-set-requires : goal.followed-set-requires

@@ -1,11 +1,10 @@
 -- `certify_cares::Cares::and` meets its contract: register by register the cares are joined.
 -- Assumes nothing.
 use mathlib.Core.Path.{◌≡◌}
-use Prim.Native.Nat.{◌-◌}
 use native.Mathlib.Omega.{arith}
 use lib.ListN.{length, length-set}
 use Rattle.program.proofs.Arrays.{length_mapped}
-use Rattle.certify_cares.proofs.Agreeing.{Joined, joined_more, joined_all}
+use Rattle.certify_cares.proofs.Agreeing.{joined_more, joined_all}
 use Rattle.certify_cares.proofs.Cares.and.Goals as goal
 
 pub loop-j-init : goal.loop-j-init

@@ -2,10 +2,8 @@
 -- Assumes nothing.
 use mathlib.Core.Path.{◌≡◌}
 use Prim.Native.Nat.{◌-◌}
-use native.Mathlib.Omega.{arith}
-use lib.ListN.{length, length-set}
-use Rattle.program.proofs.Arrays.{length_mapped}
-use Rattle.certify_cares.proofs.Agreeing.{Joined, joined_more, joined_all}
+use lib.ListN.{length}
+use Rattle.certify_cares.proofs.Agreeing.{Joined}
 use Rattle.certify_cares.proofs.Cares.and.Given as goal
 
 abbrev pub invariant-loop-j : goal.invariant-loop-j

@@ -1,6 +1,5 @@
 -- `certify_cares::Cares::forgetting` meets its contract.
 -- Assumes nothing.
-use borrow.Author.Rules.{rules}
 use Rattle.certify_cares.proofs.Agreeing.{forgotten}
 use Rattle.certify_cares.proofs.Cares.forgetting.Goals as goal
 

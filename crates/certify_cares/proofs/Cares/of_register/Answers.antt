@@ -3,7 +3,6 @@
 use mathlib.Core.Path.{◌≡◌, sym}
 use native.Mathlib.Omega.{arith}
 use lib.ListN.{length, get_or-eq_default}
-use borrow.Author.Rules.{rules}
 use Rattle.program.proofs.Arrays.{length_mapped, get_d_any}
 use Rattle.certify_cares.proofs.Cares.of_register.Goals as goal
 

@@ -1,6 +1,5 @@
 -- `certify_cares::barred::marked` meets its contract.
 -- Assumes nothing.
-use borrow.Author.Rules.{rules}
 use borrow.Author.Tests.{eqb-true, eqb-false}
 use Rattle.certify_cares.proofs.barred.marked.Goals as goal
 

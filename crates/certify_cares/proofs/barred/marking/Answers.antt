@@ -1,7 +1,6 @@
 -- `certify_cares::barred::marking` meets its contract.
 -- Assumes nothing.
 use Prim.Native.Nat.{◌^◌}
-use borrow.Author.Rules.{rules}
 use Rattle.machine.proofs.Words.{shl_one}
 use Rattle.certify_cares.proofs.Marks.{marked_left, marked_right, one_marked}
 use Rattle.certify_cares.proofs.barred.marking.Goals as goal

@@ -3,7 +3,6 @@
 use mathlib.Core.Path.{◌≡◌, subst}
 use Prim.Native.Nat.{ℕ, ◌+◌, ◌%◌, ◌<◌}
 use native.Mathlib.Omega.{arith}
-use borrow.Author.Rules.{rules}
 use Rattle.certify_cares.specs.Cares.{Marked}
 use Rattle.certify_cares.proofs.Marks.{turned_marked}
 use Rattle.certify_cares.proofs.barred.turned.Goals as goal

@@ -1,7 +1,6 @@
 -- `certify_cares::before::before_branch` meets its contract: an operand that is compared with itself is not noted; else the first is, then the second.
 -- Assumes nothing.
 use Rattle.certify_cares.proofs.Results.{one_operand, way_told}
-use borrow.Author.Rules.{rules}
 use Rattle.certify_cares.proofs.before.before_branch.Goals as goal
 
 pub returns-then-i : goal.returns-then-i

@@ -2,7 +2,6 @@
 -- Assumes nothing.
 use Rattle.program.specs.Program.{compute_mode}
 use Rattle.certify_cares.proofs.Results.{result_told}
-use borrow.Author.Rules.{rules}
 use Rattle.certify_cares.proofs.before.before_compute.Goals as goal
 
 pub returns : goal.returns

@@ -5,7 +5,6 @@ use mathlib.Core.Bool.{Bool}
 use lib.Dec.{eqb}
 use Rattle.machine.specs.Rules.{branch_by}
 use Rattle.certify_cares.proofs.Results.{no_skip}
-use borrow.Author.Rules.{rules}
 use Rattle.certify_cares.proofs.before.branch_shares.Goals as goal
 
 pub returns-then-n-eq0 : goal.returns-then-n-eq0

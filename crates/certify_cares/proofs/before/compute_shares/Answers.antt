@@ -2,7 +2,6 @@
 -- Assumes nothing.
 use Rattle.certify_cares.proofs.Agreeing.{nothing_asked}
 use Rattle.certify_cares.proofs.Results.{is_sum, is_difference, is_exclusive, is_equal, same_equal}
-use borrow.Author.Rules.{rules}
 use Rattle.certify_cares.proofs.before.compute_shares.Goals as goal
 
 pub returns-then-care-eq0 : goal.returns-then-care-eq0

@@ -2,9 +2,7 @@
 -- Assumes nothing.
 use mathlib.Core.Path.{refl}
 use native.Mathlib.Omega.{arith}
-use borrow.Author.Tests.{eqb-false, not-true}
 use Rattle.certify_cares.proofs.Results.{same_result, placed_difference, other_difference, other_difference_first}
-use borrow.Author.Rules.{rules}
 use Rattle.certify_cares.proofs.before.difference_shares.Goals as goal
 
 pub returns-then-care-eq0 : goal.returns-then-care-eq0

@@ -3,7 +3,6 @@
 use mathlib.Core.Path.{refl}
 use native.Mathlib.Omega.{arith}
 use Rattle.certify_cares.proofs.Results.{same_test, not_first, not_second}
-use borrow.Author.Rules.{rules}
 use Rattle.certify_cares.proofs.before.equal_shares.Goals as goal
 
 pub returns-then-x-y : goal.returns-then-x-y

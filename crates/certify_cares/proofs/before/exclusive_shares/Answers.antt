@@ -3,7 +3,6 @@
 use mathlib.Core.Path.{refl}
 use native.Mathlib.Omega.{arith}
 use Rattle.certify_cares.proofs.Results.{exclusive_byte, same_result, placed_exclusive, other_exclusive, other_exclusive_first}
-use borrow.Author.Rules.{rules}
 use Rattle.certify_cares.proofs.before.exclusive_shares.Goals as goal
 
 pub returns-then-care-eq0 : goal.returns-then-care-eq0

@@ -4,7 +4,6 @@ use mathlib.Core.Path.{◌≡◌, ◌∙◌}
 use native.Mathlib.Omega.{arith}
 use lib.ListN.{length, length-set}
 use Rattle.certify_cares.proofs.Agreeing.{noted_constant, noted_past, noted_register}
-use borrow.Author.Rules.{rules}
 use Rattle.certify_cares.proofs.before.note.Goals as goal
 
 pub returns-then-k-eq0 : goal.returns-then-k-eq0

@@ -3,7 +3,6 @@
 use mathlib.Core.Path.{refl}
 use native.Mathlib.Omega.{arith}
 use Rattle.certify_cares.proofs.Results.{same_result, placed_sum, placed_sum_first, other_sum, other_sum_first}
-use borrow.Author.Rules.{rules}
 use Rattle.certify_cares.proofs.before.sum_shares.Goals as goal
 
 pub returns-then-earlier : goal.returns-then-earlier

@@ -5,7 +5,6 @@ use native.Mathlib.Omega.{arith}
 use lib.ListN.{length, length-set, get_or-eq_default}
 use Rattle.program.proofs.Arrays.{get_d_any}
 use Rattle.certify_cares.proofs.Agreeing.{forgotten}
-use borrow.Author.Rules.{rules}
 use Rattle.certify_cares.proofs.before.take.Goals as goal
 
 pub returns-then-r-ge8 : goal.returns-then-r-ge8

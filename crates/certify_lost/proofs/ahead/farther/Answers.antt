@@ -4,7 +4,6 @@ use mathlib.Core.Path.{ap}
 use native.Mathlib.Nat.{le_refl}
 use native.Mathlib.Omega.{arith}
 use Rattle.certify_lost.proofs.Losing.{branches, no_branch, branch_led}
-use borrow.Author.Rules.{rules}
 use Rattle.certify_lost.proofs.ahead.farther.Goals as goal
 
 pub returns-then-to-far : goal.returns-then-to-far

@@ -2,9 +2,7 @@
 -- Assumes nothing.
 use mathlib.Core.Path.{ap, subst}
 use lib.Dec.{T}
-use borrow.Author.Rules.{rules}
 use Rattle.program.specs.Inner.{stores_of}
-use borrow.Author.Rules.{rules}
 use Rattle.certify_lost.proofs.ahead.is_store.Goals as goal
 
 pub returns-in-Store : goal.returns-in-Store

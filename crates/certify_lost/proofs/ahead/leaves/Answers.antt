@@ -1,7 +1,6 @@
 -- `certify_lost::ahead::leaves` meets its contract: one case for each instruction.
 -- Assumes nothing.
 use Rattle.certify_lost.proofs.Leaving.{leaves_same, leaves_load, leaves_store, leaves_fence}
-use borrow.Author.Rules.{rules}
 use Rattle.certify_lost.proofs.ahead.leaves.Goals as goal
 
 pub returns-in-Load : goal.returns-in-Load

@@ -2,10 +2,6 @@
 -- Assumes nothing.
 use mathlib.Core.Path.{refl, sym, subst, ◌∙◌}
 use lib.Dec.{T}
-use borrow.Author.Rules.{rules}
-use Rattle.certify_lost.proofs.ahead.passing.Reads as reads
-use Rattle.certify_lost.proofs.ahead.passing.Lts as lts
-use Rattle.certify_lost.proofs.ahead.leaves.Reads as leaves-reads
 use Rattle.certify_lost.proofs.ahead.passing.Goals as goal
 
 pub returns-then-certain : goal.returns-then-certain

@@ -3,7 +3,6 @@
 use mathlib.Core.Path.{sym, subst}
 use native.Mathlib.Omega.{arith}
 use lib.Dec.{T}
-use borrow.Author.Rules.{rules}
 use borrow.Author.Tests.{not-true}
 use Rattle.certify_lost.specs.Lost.{Unwritten}
 use Rattle.certify_lost.proofs.ahead.unwritten.Goals as goal

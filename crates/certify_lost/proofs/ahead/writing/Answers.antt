@@ -1,7 +1,6 @@
 -- `certify_lost::ahead::writing` meets its contract.
 -- Assumes nothing.
 use native.Mathlib.Omega.{arith}
-use borrow.Author.Rules.{rules}
 use Rattle.certify_lost.proofs.ahead.writing.Goals as goal
 
 pub returns-then-r-ge16 : goal.returns-then-r-ge16

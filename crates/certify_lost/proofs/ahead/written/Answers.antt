@@ -4,7 +4,6 @@ use mathlib.Core.Path.{subst}
 use Rattle.program.specs.declared.Instr.{Instr}
 use Rattle.certify_lost.specs.Lost.{Writes}
 use Rattle.certify_lost.proofs.Losing.{writes_this}
-use borrow.Author.Rules.{rules}
 use Rattle.certify_lost.proofs.ahead.written.Goals as goal
 
 pub returns-in-Compute : goal.returns-in-Compute

@@ -1,8 +1,6 @@
 -- `certify_lost::telling::feeds` meets its contract.
 -- Assumes nothing.
 use Prim.Native.Nat.{◌-◌}
-use native.Mathlib.Omega.{arith}
-use borrow.Author.Rules.{rules}
 use Rattle.certify_lost.proofs.telling.feeds.Given as goal
 
 abbrev pub invariant-loop-k : goal.invariant-loop-k

@@ -5,7 +5,6 @@ use Prim.Native.Nat.{◌/◌}
 use native.Mathlib.Omega.{arith}
 use Rattle.certify_cares.specs.Cares.{Marked}
 use Rattle.certify_cares.proofs.Marks.{all_marked}
-use borrow.Author.Rules.{rules}
 use Rattle.certify_lost.proofs.wanted.filling.Goals as goal
 
 pub returns-then-place-top : goal.returns-then-place-top

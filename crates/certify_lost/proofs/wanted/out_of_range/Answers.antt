@@ -2,7 +2,6 @@
 -- Assumes nothing.
 use native.Mathlib.Omega.{arith}
 use Rattle.certify_lost.proofs.Losing.{not_one, not_below, not_above, not_same}
-use borrow.Author.Rules.{rules}
 use Rattle.certify_lost.proofs.wanted.out_of_range.Goals as goal
 
 pub returns-then-w : goal.returns-then-w

@@ -4,7 +4,6 @@ use mathlib.Core.Path.{sym, subst}
 use native.Mathlib.Omega.{arith}
 use lib.Dec.{T}
 use Rattle.certify_sought.proofs.Numbers.{none_left, one_left}
-use borrow.Author.Rules.{rules}
 use Rattle.certify_sought.proofs.Met.ended.Goals as goal
 
 pub returns-then-self-from : goal.returns-then-self-from

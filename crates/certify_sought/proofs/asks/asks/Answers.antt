@@ -1,7 +1,6 @@
 -- `certify_sought::asks::asks` meets its contract: one case for each instruction.
 -- Assumes nothing.
 use mathlib.Core.Path.{ap}
-use borrow.Author.Rules.{rules}
 use Rattle.certify_sought.proofs.Asking.{is_tried, load_asks, store_asks, other_asks}
 use Rattle.certify_sought.proofs.asks.asks.Goals as goal
 

@@ -1,6 +1,5 @@
 -- `certify_sought::asks::load_asks` meets its contract: one case for each operand that keeps its location.
 -- Assumes nothing.
-use borrow.Author.Rules.{rules}
 use Rattle.certify_sought.proofs.Asking.{first_kept, second_kept}
 use Rattle.certify_sought.proofs.asks.load_asks.Goals as goal
 

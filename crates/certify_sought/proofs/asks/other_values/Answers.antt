@@ -1,10 +1,6 @@
 -- `certify_sought::asks::other_values` meets its contract.
 -- Assumes nothing.
-use mathlib.Core.Logic.{⊎_elim}
-use Prim.Native.Nat.{◌-◌, ◌<◌}
 use native.Mathlib.Omega.{arith}
-use borrow.Author.Rules.{rules}
-use Rattle.certify_sought.specs.Asks.{OtherValues}
 use Rattle.certify_sought.proofs.Asking.{values_first, values_other, values_same, values_all}
 use Rattle.certify_sought.proofs.asks.other_values.Goals as goal
 use Rattle.certify_sought.proofs.asks.other_values.Goals.{then-w-l, else-w-l}

@@ -2,7 +2,6 @@
 -- Assumes nothing.
 use mathlib.Core.Path.{sym, subst, ◌∙◌}
 use lib.Dec.{T}
-use borrow.Author.Rules.{rules}
 use Rattle.certify_sought.proofs.asks.own_asks.Goals as goal
 
 pub returns-then-read : goal.returns-then-read

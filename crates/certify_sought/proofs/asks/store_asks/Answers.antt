@@ -1,7 +1,6 @@
 -- `certify_sought::asks::store_asks` meets its contract: one case for a store that cannot fill the hole, and one for others.
 -- Assumes nothing.
 use mathlib.Core.Path.{sym, ◌∙◌}
-use borrow.Author.Rules.{rules}
 use Rattle.certify_sought.proofs.Asking.{keeps_hole, fills_hole}
 use Rattle.certify_sought.proofs.asks.store_asks.Goals as goal
 

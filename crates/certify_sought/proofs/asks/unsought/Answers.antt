@@ -3,7 +3,6 @@
 use mathlib.Core.Path.{refl}
 use native.Mathlib.Omega.{arith}
 use Rattle.certify_sought.proofs.Placing.{unsought_above, unsought_below, unsought_same}
-use borrow.Author.Rules.{rules}
 use Rattle.certify_sought.proofs.asks.unsought.Goals as goal
 
 pub returns-then-top-number : goal.returns-then-top-number

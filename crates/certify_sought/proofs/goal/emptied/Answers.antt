@@ -1,9 +1,6 @@
 -- `certify_sought::goal::emptied` meets its contract.
 -- Assumes nothing.
 use mathlib.Core.Path.{refl}
-use borrow.Author.Rules.{rules}
-use Rattle.certify_sought.proofs.Met.with.Reads as with-reads
-use Rattle.certify_sought.proofs.Sought.seeks.Reads as seeks-reads
 use Rattle.certify_sought.proofs.goal.emptied.Goals as goal
 
 pub returns-then-seeks : goal.returns-then-seeks

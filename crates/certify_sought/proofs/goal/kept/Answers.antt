@@ -3,8 +3,6 @@
 use mathlib.Core.Path.{sym, subst}
 use lib.Dec.{T}
 use Rattle.certify_sought.proofs.Numbers.{is_kept}
-use borrow.Author.Rules.{rules}
-use Rattle.machine.proofs.promises.is_empty.Reads as is-empty-reads
 use Rattle.certify_sought.proofs.goal.kept.Goals as goal
 
 pub returns-then-q-ne0 : goal.returns-then-q-ne0

@@ -1,8 +1,6 @@
 -- `certify_sought::places::locations` meets its contract.
 -- Assumes nothing.
-use Prim.Native.Nat.{◌-◌, ◌<◌}
 use native.Mathlib.Omega.{arith}
-use Rattle.certify_sought.specs.Asks.{Located}
 use Rattle.certify_sought.proofs.Placing.{located_first, located_next, located_all}
 use Rattle.certify_sought.proofs.places.locations.Goals as goal
 

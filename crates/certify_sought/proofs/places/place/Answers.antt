@@ -1,6 +1,5 @@
 -- `certify_sought::places::place` meets its contract.
 -- Assumes nothing.
-use borrow.Author.Rules.{rules}
 use Rattle.certify_cares.proofs.Marks.{all_marked}
 use Rattle.certify_sought.proofs.Placing.{elsewhere}
 use Rattle.certify_sought.proofs.places.place.Goals as goal

@@ -2,8 +2,6 @@
 -- Assumes nothing.
 use mathlib.Core.Path.{sym, subst, ◌∙◌}
 use lib.Dec.{T}
-use borrow.Author.Rules.{rules}
-use borrow.Author.Tests.{not-true}
 use Rattle.certify_sought.proofs.places.sought_at.Goals as goal
 
 pub returns-then-not-has : goal.returns-then-not-has

@@ -1,7 +1,5 @@
 -- `certify_sought::places::vacancy` meets its contract.
 -- Assumes nothing.
-use borrow.Author.Rules.{rules}
-use borrow.Author.Tests.{not-false}
 use Rattle.certify_cares.proofs.Marks.{all_marked}
 use Rattle.certify_sought.proofs.Placing.{vacant_out}
 use Rattle.certify_sought.proofs.places.vacancy.Goals as goal

@@ -2,8 +2,6 @@
 -- Assumes nothing.
 use mathlib.Core.Path.{refl, sym, subst, ◌∙◌}
 use lib.Dec.{T}
-use borrow.Author.Tests.{not-false}
-use borrow.Author.Rules.{rules}
 use Rattle.certify_tried.proofs.blind.told.Goals as goal
 
 pub returns-then-not-is : goal.returns-then-not-is

@@ -1,6 +1,5 @@
 -- `certify_tried::blind::unread` meets its contract.
 -- Assumes nothing.
-use borrow.Author.Rules.{rules}
 use Rattle.certify_tried.proofs.Unread.{unread_by}
 use Rattle.certify_tried.proofs.blind.unread.Goals as goal
 

@@ -2,7 +2,6 @@
 -- Assumes nothing.
 use mathlib.Core.Path.{sym, subst}
 use lib.Dec.{T}
-use borrow.Author.Rules.{rules}
 use Rattle.certify_window.proofs.Idling.{vacant_past, unseen_by, early_by, load_idles}
 use Rattle.certify_window.proofs.idle.idle.Goals as goal
 

@@ -2,7 +2,6 @@
 -- Assumes nothing.
 use mathlib.Core.Path.{refl, sym, subst, ◌∙◌}
 use lib.Dec.{T}
-use borrow.Author.Rules.{rules}
 use Rattle.certify_window.proofs.idle.resumed.Goals as goal
 
 pub returns-then-apart : goal.returns-then-apart

@@ -3,7 +3,6 @@
 use mathlib.Core.Path.{◌≡◌}
 use native.Mathlib.Omega.{arith}
 use lib.ListN.{length}
-use borrow.Author.Rules.{rules}
 use Rattle.program.proofs.Arrays.{length_mapped, get_d_any}
 use Rattle.machine.proofs.Machine.thread_of.Goals as goal
 

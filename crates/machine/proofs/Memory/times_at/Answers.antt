@@ -2,7 +2,7 @@
 -- by t. The measure is t.
 -- Assumes nothing.
 use native.Mathlib.Omega.{arith}
-use Rattle.machine.proofs.TimeSets.{Gathered, gathered_none, gathered_step, gathered_room, gathered_all}
+use Rattle.machine.proofs.TimeSets.{gathered_none, gathered_step, gathered_room, gathered_all}
 use Rattle.machine.proofs.Memory.times_at.Goals as goal
 
 pub loop-t-init : goal.loop-t-init

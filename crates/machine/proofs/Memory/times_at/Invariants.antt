@@ -1,8 +1,7 @@
 -- `machine::Memory::times_at` meets its contract. The loop's invariant: the set has the messages to l after time t, each moved down
 -- by t. The measure is t.
 -- Assumes nothing.
-use native.Mathlib.Omega.{arith}
-use Rattle.machine.proofs.TimeSets.{Gathered, gathered_none, gathered_step, gathered_room, gathered_all}
+use Rattle.machine.proofs.TimeSets.{Gathered}
 use Rattle.machine.proofs.Memory.times_at.Given as goal
 
 abbrev pub invariant-loop-t : goal.invariant-loop-t

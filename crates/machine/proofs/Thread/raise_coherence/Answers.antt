@@ -1,6 +1,5 @@
 -- `machine::Thread::raise_coherence` meets its contract.
 -- Assumes nothing.
-use borrow.Author.Rules.{rules}
 use Rattle.machine.proofs.Thread.raise_coherence.Goals as goal
 
 pub returns : goal.returns

@@ -5,7 +5,6 @@ use native.Mathlib.Omega.{arith}
 use lib.ListN.{length, get_or-eq_default}
 use Rattle.program.proofs.Arrays.{length_mapped}
 use Rattle.machine.specs.State.{fresh_register}
-use borrow.Author.Rules.{rules}
 use Rattle.machine.proofs.Thread.register_at.Goals as goal
 
 pub returns-else-n-lt8 : goal.returns-else-n-lt8

@@ -1,6 +1,5 @@
 -- `machine::Thread::take_out` meets its contract.
 -- Assumes nothing.
-use borrow.Author.Rules.{rules}
 use Rattle.machine.proofs.Thread.take_out.Goals as goal
 
 pub returns : goal.returns

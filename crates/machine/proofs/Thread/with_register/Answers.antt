@@ -6,7 +6,6 @@ use native.Mathlib.Omega.{arith}
 use lib.ListN.{length}
 use lib.Seq.{set_out}
 use Rattle.program.proofs.Arrays.{length_mapped}
-use borrow.Author.Rules.{rules}
 use Rattle.machine.proofs.Thread.with_register.Goals as goal
 
 pub returns-else-n-lt8 : goal.returns-else-n-lt8

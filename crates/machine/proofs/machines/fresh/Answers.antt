@@ -1,6 +1,5 @@
 -- `machine::machines::fresh` meets its contract.
 -- Assumes nothing.
-use borrow.Author.Rules.{rules}
 use Rattle.machine.specs.State.{fresh}
 use Rattle.machine.proofs.machines.fresh.Goals as goal
 

@@ -1,7 +1,6 @@
 -- `machine::promises::has` meets its contract: no time is 0, none is above 16.
 -- Assumes nothing.
 use Rattle.machine.proofs.Words.{has_zero, has_late, has_digit}
-use borrow.Author.Rules.{rules}
 use Rattle.machine.proofs.promises.has.Goals as goal
 
 pub returns-then-t-eq0 : goal.returns-then-t-eq0

@@ -5,7 +5,6 @@ use native.Mathlib.Omega.{arith}
 use lib.Pow.{pow_mono}
 use Rattle.machine.specs.State.{with}
 use Rattle.machine.proofs.Words.{shl_one}
-use borrow.Author.Rules.{rules}
 use Rattle.machine.proofs.promises.with.Goals as goal
 
 pub overflow_add-result : goal.overflow_add-result

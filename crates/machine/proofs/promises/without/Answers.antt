@@ -4,7 +4,6 @@ use Prim.Native.Nat.{◌-◌, ◌<◌}
 use native.Mathlib.Omega.{arith}
 use Rattle.machine.specs.State.{without}
 use Rattle.machine.proofs.Words.{member, shl_one}
-use borrow.Author.Rules.{rules}
 use Rattle.machine.proofs.promises.without.Goals as goal
 
 pub overflow_sub-result : goal.overflow_sub-result

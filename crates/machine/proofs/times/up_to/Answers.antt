@@ -4,7 +4,6 @@ use lib.Pow.{pow_pos}
 use Rattle.machine.specs.Inner.{up_to}
 use Rattle.machine.proofs.Words.{shl_one}
 use Rattle.machine.proofs.TimeSets.{up_to_all}
-use borrow.Author.Rules.{rules}
 use Rattle.machine.proofs.times.up_to.Goals as goal
 
 pub returns-then-v-ge16 : goal.returns-then-v-ge16

@@ -2,7 +2,6 @@
 -- Assumes nothing.
 use borrow.Author.Tests.{lt-ltb}
 use Rattle.program.specs.Program.{instr_at}
-use borrow.Author.Rules.{rules}
 use Rattle.program.proofs.Code.instr_at.Goals as goal
 
 pub returns : goal.returns

@@ -1,6 +1,5 @@
 -- `rules::operands::view_of` meets its contract: one case for each kind of operand.
 -- Assumes nothing.
-use Rattle.std.proofs.Common.{rules}
 use Rattle.rules.proofs.operands.view_of.Goals as goal
 
 pub returns-in-OfRegister : goal.returns-in-OfRegister

@@ -1,6 +1,6 @@
 -- `rules::plain::branch_by` meets its contract.
 -- Assumes nothing.
-use Rattle.std.proofs.Common.{arith, rules}
+use Rattle.std.proofs.Common.{arith}
 use Rattle.rules.proofs.plain.branch_by.Goals as goal
 
 pub returns-then-equal : goal.returns-then-equal

@@ -1,6 +1,6 @@
 -- `rules::plain::branch_done` meets its contract.
 -- Assumes nothing.
-use Rattle.std.proofs.Common.{arith, rules}
+use Rattle.std.proofs.Common.{arith}
 use Rattle.rules.proofs.plain.branch_done.Goals as goal
 
 pub advance-requires : goal.advance-requires

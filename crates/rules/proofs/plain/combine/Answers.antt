@@ -1,6 +1,6 @@
 -- `rules::plain::combine` meets its contract: one case for each mode.
 -- Assumes nothing.
-use Rattle.std.proofs.Common.{arith, rules, eq-eqb, ne_eqb}
+use Rattle.std.proofs.Common.{arith, eq-eqb, ne_eqb}
 use Rattle.machine.specs.Rules.{combine}
 use Rattle.rules.proofs.plain.combine.Goals as goal
 

@@ -1,6 +1,5 @@
 -- `rules::plain::fence_views` meets its contract: one case for each fence.
 -- Assumes nothing.
-use Rattle.std.proofs.Common.{rules}
 use Rattle.rules.proofs.plain.fence_views.Goals as goal
 
 pub returns-in-DmbSy : goal.returns-in-DmbSy
