@@ -1,5 +1,6 @@
 // The search: every accepted sequence in order, with a budget. A sequence is visited before its extensions.
 #![tactic(auto)]
+
 ghost use Rattle.std.specs.Prelude.{◌≡◌, ◌≤◌, T, length};
 ghost use Rattle.program.specs.WellFormed.{program_test};
 ghost use Rattle.search.specs.Answers.{refusal, Searched, SearchedWithin, cleared};

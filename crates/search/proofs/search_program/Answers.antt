@@ -25,22 +25,19 @@ pub overflow_sub-result-in-Found : goal.overflow_sub-result-in-Found
 overflow_sub-result-in-Found c = found_left _ _ _ _ _ c.visit-ran.ensures.0 _ _ c.in-Found.is
 
 pub returns-in-Going : goal.returns-in-Going
-returns-in-Going c =
-    (
-  told_forbidden _ _ c.visit-ran.result _ _ _ c.visit-ran.new.1.1.1.1.1.1.0 (rw c.fresh.ensures at c.visit-ran.ensures.0) _ c.in-Going.is,
-  cleared_again c.clear-2.ensures c.visit-ran.auto.1.1.1.1.1.1.1.0 c.clear.auto.0,
+returns-in-Going c = (
+  told_forbidden _ _ c.visit-ran.result _ _ _ c.visit-ran.new.sheet (rw c.fresh.ensures at c.visit-ran.ensures.0) _ c.in-Going.is,
+  cleared_again c.clear-2.ensures c.visit-ran.auto.table c.clear.auto.table,
 )
 
 pub returns-in-Found : goal.returns-in-Found
-returns-in-Found c =
-    (
-  told_allowed _ _ c.visit-ran.result _ _ _ c.visit-ran.new.1.1.1.1.1.1.0 (rw c.fresh.ensures at c.visit-ran.ensures.0) _ _ c.in-Found.is,
-  cleared_again c.clear-2.ensures c.visit-ran.auto.1.1.1.1.1.1.1.0 c.clear.auto.0,
+returns-in-Found c = (
+  told_allowed _ _ c.visit-ran.result _ _ _ c.visit-ran.new.sheet (rw c.fresh.ensures at c.visit-ran.ensures.0) _ _ c.in-Found.is,
+  cleared_again c.clear-2.ensures c.visit-ran.auto.table c.clear.auto.table,
 )
 
 pub returns-in-Out : goal.returns-in-Out
-returns-in-Out c =
-    (
-  told_unfinished _ _ c.visit-ran.result _ _ _ c.visit-ran.new.1.1.1.1.1.1.0 (rw c.fresh.ensures at c.visit-ran.ensures.0) c.in-Out.is,
-  cleared_again c.clear-2.ensures c.visit-ran.auto.1.1.1.1.1.1.1.0 c.clear.auto.0,
+returns-in-Out c = (
+  told_unfinished _ _ c.visit-ran.result _ _ _ c.visit-ran.new.sheet (rw c.fresh.ensures at c.visit-ran.ensures.0) c.in-Out.is,
+  cleared_again c.clear-2.ensures c.visit-ran.auto.table c.clear.auto.table,
 )
