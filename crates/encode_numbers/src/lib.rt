@@ -1,5 +1,6 @@
 // The numbers that the cases of each answer stand for.
 #![tactic(auto)]
+
 ghost use Rattle.std.specs.Prelude.{◌≡◌, cond};
 ghost use Rattle.certify.specs.Answers.{certify_refusal};
 ghost use Rattle.encode_numbers.specs.Cases.{read_refusal, read_place, certified_byte, replay_refusal, replay_file, replay_index, replay_place, verdict_byte, search_refusal, search_place, listing_byte, listing_refusal, listing_place};

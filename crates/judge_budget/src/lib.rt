@@ -1,5 +1,6 @@
 // A budget from its decimal digits, or from the word `all`.
 #![tactic(auto)]
+
 ghost use Rattle.std.specs.Prelude.{◌≡◌};
 ghost use Rattle.judge_budget.specs.Digits.{is_all, decimal_of, budget_of};
 

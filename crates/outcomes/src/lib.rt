@@ -1,5 +1,6 @@
 // The listing: all outcomes of the complete accepted sequences, each once, with a budget.
 #![tactic(auto)]
+
 ghost use Rattle.std.specs.Prelude.{◌≡◌, T};
 ghost use Rattle.program.specs.WellFormed.{program_test};
 ghost use Rattle.outcomes.specs.Answers.{nothing_listed, Listed, ListedWithin};
