@@ -1,5 +1,6 @@
 // The bytes of each answer, written at the start of an area that has room for them.
 #![tactic(auto)]
+
 ghost use Rattle.std.specs.Prelude.{◌≡◌, ◌+◌, ◌≤◌, length};
 ghost use Rattle.encode_bytes.specs.Places.{put};
 ghost use Rattle.encode_answers.specs.Value.{read_bytes, stepped_bytes, entries_bytes, certified_bytes, replayed_bytes, found_bytes, searched_bytes, within_bytes, listing_bytes, listed_bytes, listed_within_bytes};

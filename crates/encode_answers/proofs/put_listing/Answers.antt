@@ -1,0 +1,12 @@
+-- `encode_answers::put_listing` meets its contract: part after part.
+-- Assumes nothing.
+use native.Mathlib.Omega.{arith}
+use borrow.Author.Rules.{rules}
+use Rattle.encode_answers.specs.Value.{listing_bytes}
+use Rattle.encode_bytes.proofs.Putting.{put_then}
+use Rattle.encode_answers.proofs.put_listing.Goals as goal
+
+pub returns : goal.returns
+unfolding listing_bytes
+returns c =
+    put_then _ _ _ _ _ (rw (c.listing_refusal.ensures, c.listing_byte.ensures) at c.put_four.ensures) (rw c.listing_place.ensures at c.put_u32.ensures) (omega arith) (omega arith)

@@ -1,0 +1,12 @@
+-- `encode_answers::put_within` meets its contract: part after part.
+-- Assumes nothing.
+use native.Mathlib.Omega.{arith}
+use borrow.Author.Rules.{rules}
+use Rattle.encode_answers.specs.Value.{within_bytes}
+use Rattle.encode_bytes.proofs.Putting.{put_then}
+use Rattle.encode_answers.proofs.Lengths.{found_length}
+use Rattle.encode_answers.proofs.put_within.Goals as goal
+
+pub returns : goal.returns
+unfolding within_bytes
+returns c = put_then _ _ _ _ _ c.put_found.ensures c.put_u64.ensures (let l = found_length c.args.r in omega arith) (omega arith)
