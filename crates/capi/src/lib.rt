@@ -2,6 +2,7 @@
 // answer area is shorter than the answer; 2 where a program or machine value has another length than stated. On 1 and 2 nothing
 // is written; otherwise exactly the answer's bytes, and what the search and the listing leave in the areas that they are lent.
 #![tactic(auto)]
+
 ghost use Rattle.std.specs.Prelude.{◌≡◌, [], ◌∷◌};
 ghost use Rattle.capi.specs.Calls.{called, read_call, step_call, certify_call, replay_call, called_beside, search_call, within_call, outcomes_call, outcomes_within_call};
 

@@ -1,0 +1,28 @@
+-- `capi::blyskota_step` meets its contract.
+-- Assumes nothing.
+use native.Mathlib.Omega.{arith}
+use borrow.Author.Rules.{rules}
+use Rattle.step.specs.Step.{step}
+use Rattle.step.specs.Answers.{stepped}
+use Rattle.encode_answers.specs.Value.{stepped_bytes}
+use Rattle.capi.proofs.Called.{short, other_program, other_machine, answer_of_values}
+use Rattle.capi.specs.Calls.{step_call}
+use Rattle.capi.proofs.blyskota_step.Goals as goal
+
+pub returns-then-answer-lt342 : goal.returns-then-answer-lt342
+unfolding step_call
+returns-then-answer-lt342 c = short 342 _ _ (omega arith)
+
+pub returns-then-program-ne487 : goal.returns-then-program-ne487
+unfolding step_call
+returns-then-program-ne487 c = let a = c.args in other_program 342 a.program.now a.machine.now a.answer.now _ c.if-answer-lt342.false c.if-program-ne487.true
+
+pub returns-then-machine-ne341 : goal.returns-then-machine-ne341
+unfolding step_call
+returns-then-machine-ne341 c =
+    let a = c.args in other_machine 342 a.program.now a.machine.now a.answer.now _ c.if-answer-lt342.false c.if-program-ne487.false c.if-machine-ne341.true
+
+pub returns : goal.returns
+unfolding step_call
+returns c =
+    answer_of_values 342 stepped_bytes _ _ _ c.if-answer-lt342.false c.put_stepped.ensures (λ q y k. stepped y (step q y k)) _ _ _ _ _ c.if-program-ne487.false c.if-machine-ne341.false c.program_of.ensures c.machine_of.ensures c.step.ensures
