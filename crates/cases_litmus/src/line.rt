@@ -1,9 +1,9 @@
 // One test on a line: its name, the budget, the published verdict and the bytes of the program file, a space between.
 use cases_rows::file::{File, add, none, readable};
 use cases_rows::find;
-use check::same;
 use judge_budget::{Budget, budget_of};
 use search::Verdict;
+use std::io;
 use text::{count, number, text};
 
 // What came of a line. Open: not finished, where the published verdict is allowed or forbidden.
@@ -15,93 +15,112 @@ pub enum Came {
     Unread,
 }
 
-fn unread(name: &[u8]) -> Came {
-    cases_rows::unread(name);
-    Came::Unread
+fn unread(rt: &impl Print, name: &[u8]) -> io::Result<Came> {
+    cases_rows::unread(rt, name)?;
+    Ok(Came::Unread)
 }
 
 // The verdict beside the published one.
-fn beside(published: &[u8], verdict: &[u8]) -> Came {
-    text(b" published ");
-    text(published);
-    if same(verdict, published) {
-        text(b" agrees\n");
-        return Came::Agrees;
+fn beside(rt: &impl Print, published: &[u8], verdict: &[u8]) -> io::Result<Came> {
+    text(rt, b" published ")?;
+    text(rt, published)?;
+    if verdict == published {
+        text(rt, b" agrees\n")?;
+        return Ok(Came::Agrees);
     }
-    if same(verdict, b"not-finished") {
-        text(b" open\n");
-        return Came::Open;
+    if verdict == b"not-finished" {
+        text(rt, b" open\n")?;
+        return Ok(Came::Open);
     }
-    text(b" differs\n");
-    Came::Differs
+    text(rt, b" differs\n")?;
+    Ok(Came::Differs)
 }
 
-fn found(published: &[u8], verdict: &[u8], n: u64) -> Came {
-    text(b" ");
-    text(verdict);
-    count(b' ', n as usize);
-    beside(published, verdict)
+fn found(rt: &impl Print, published: &[u8], verdict: &[u8], n: u64) -> io::Result<Came> {
+    text(rt, b" ")?;
+    text(rt, verdict)?;
+    count(rt, b' ', n as usize)?;
+    beside(rt, published, verdict)
 }
 
-fn refused(published: &[u8], refusal: u8, place: usize) -> Came {
-    text(b" refused");
-    number(b' ', refusal);
-    text(b" at");
-    count(b' ', place);
-    beside(published, b"refused")
+fn refused(rt: &impl Print, published: &[u8], refusal: u8, place: usize) -> io::Result<Came> {
+    text(rt, b" refused")?;
+    number(rt, b' ', refusal)?;
+    text(rt, b" at")?;
+    count(rt, b' ', place)?;
+    beside(rt, published, b"refused")
 }
 
 // The file is the first n bytes.
-fn judged(name: &[u8], budget: u64, published: &[u8], file: &[u8], n: usize) -> Came {
+fn judged(
+    rt: &impl Print,
+    name: &[u8],
+    budget: u64,
+    published: &[u8],
+    file: &[u8],
+    n: usize,
+) -> io::Result<Came> {
     if file.len() < n {
-        return unread(name);
+        return unread(rt, name);
     }
-    text(name);
+    text(rt, name)?;
     let mut area = [0u8; 480];
     let mut table = search_table::empty();
     let a = search::search_within(&file[0..n], budget, &mut area, &mut table);
     let v = a.verdict;
     match v {
-        Verdict::Allowed => found(published, b"allowed", a.count),
-        Verdict::Forbidden => found(published, b"forbidden", a.count),
-        Verdict::NotFinished => found(published, b"not-finished", a.count),
-        Verdict::Refused(refusal, place) => refused(published, refusal, place),
+        Verdict::Allowed => found(rt, published, b"allowed", a.count),
+        Verdict::Forbidden => found(rt, published, b"forbidden", a.count),
+        Verdict::NotFinished => found(rt, published, b"not-finished", a.count),
+        Verdict::Refused(refusal, place) => refused(rt, published, refusal, place),
     }
 }
 
-fn with_file(name: &[u8], budget: u64, published: &[u8], f: File) -> Came {
+fn with_file(
+    rt: &impl Print,
+    name: &[u8],
+    budget: u64,
+    published: &[u8],
+    f: File,
+) -> io::Result<Came> {
     if readable(f) {
         let b = f.bytes;
-        return judged(name, budget, published, &b, f.len);
+        return judged(rt, name, budget, published, &b, f.len);
     }
-    unread(name)
+    unread(rt, name)
 }
 
 // The line from the published verdict on.
-fn with_budget(name: &[u8], budget: u64, s: &[u8]) -> Came {
+fn with_budget(rt: &impl Print, name: &[u8], budget: u64, s: &[u8]) -> io::Result<Came> {
     let space = find(s, 0, b' ');
     if space == s.len() {
-        return unread(name);
+        return unread(rt, name);
     }
-    with_file(name, budget, &s[0..space], add(none(), &s[space..s.len()]))
+    with_file(
+        rt,
+        name,
+        budget,
+        &s[0..space],
+        add(none(), &s[space..s.len()]),
+    )
 }
 
 // The line from the budget on.
-fn named(name: &[u8], s: &[u8]) -> Came {
+fn named(rt: &impl Print, name: &[u8], s: &[u8]) -> io::Result<Came> {
     let space = find(s, 0, b' ');
     if space == s.len() {
-        return unread(name);
+        return unread(rt, name);
     }
     match budget_of(&s[0..space]) {
-        Budget::Given(b) => with_budget(name, b, &s[space + 1..s.len()]),
-        Budget::Bad => unread(name),
+        Budget::Given(b) => with_budget(rt, name, b, &s[space + 1..s.len()]),
+        Budget::Bad => unread(rt, name),
     }
 }
 
-pub fn line(s: &[u8]) -> Came {
+pub fn line(rt: &impl Print, s: &[u8]) -> io::Result<Came> {
     let space = find(s, 0, b' ');
     if space == s.len() {
-        return unread(s);
+        return unread(rt, s);
     }
-    named(&s[0..space], &s[space + 1..s.len()])
+    named(rt, &s[0..space], &s[space + 1..s.len()])
 }

@@ -1,10 +1,12 @@
 // Runs litmus tests, one on each line of standard input, and prints for each its name, verdict and count, and the published
 // verdict beside them; then how many there are.
 #![tactic(auto)]
+
 mod line;
 
 use cases_rows::{input, line_at};
 use line::{Came, line};
+use std::io;
 use text::{count, text};
 
 #[derive(Clone, Copy)]
@@ -32,7 +34,7 @@ fn with(t: Tally, came: Came) -> Tally {
     u
 }
 
-fn lines(s: &[u8]) -> Tally {
+fn lines(rt: &impl Print, s: &[u8]) -> io::Result<Tally> {
     let mut t = Tally {
         tests: 0,
         agree: 0,
@@ -44,28 +46,28 @@ fn lines(s: &[u8]) -> Tally {
     while at < s.len() {
         let l = line_at(s, at);
         let mark = l.mark;
-        t = with(t, line(&s[at..mark]));
+        t = with(t, line(rt, &s[at..mark])?);
         at = l.next;
     }
-    t
+    Ok(t)
 }
 
-fn told(t: Tally) {
-    text(b"tests");
-    count(b' ', t.tests);
-    text(b", agree");
-    count(b' ', t.agree);
-    text(b", differ");
-    count(b' ', t.differ);
-    text(b", open");
-    count(b' ', t.open);
-    text(b", cannot be read");
-    count(b' ', t.unread);
-    text(b"\n");
+fn told(rt: &impl Print, t: Tally) -> io::Result<()> {
+    text(rt, b"tests")?;
+    count(rt, b' ', t.tests)?;
+    text(rt, b", agree")?;
+    count(rt, b' ', t.agree)?;
+    text(rt, b", differ")?;
+    count(rt, b' ', t.differ)?;
+    text(rt, b", open")?;
+    count(rt, b' ', t.open)?;
+    text(rt, b", cannot be read")?;
+    count(rt, b' ', t.unread)?;
+    text(rt, b"\n")
 }
 
-fn main() {
-    let mut buffer = io::large_buffer();
-    let n = input(&mut buffer);
-    told(lines(&buffer[0..n]));
+fn main(rt: HostRuntime) -> io::Result<()> {
+    let mut buffer = [0u8; 65536];
+    let n = input(&rt, &mut buffer)?;
+    told(&rt, lines(&rt, &buffer[0..n])?)
 }

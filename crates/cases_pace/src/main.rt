@@ -1,41 +1,34 @@
 // How long the calls take: each is made many times over, never twice on the same value. A sum of the answers goes to standard output,
 // the processor time to standard error.
 #![tactic(auto)]
-ghost use Rattle.std.specs.Prelude.{◌≡◌, length, pos, ◌≤ℤ◌};
+
+ghost use Rattle.std.specs.Prelude.{◌≡◌, length};
 
 use certify::{Certified, certify};
 use file_reader::read;
-use libc::{STDERR_FILENO, STDOUT_FILENO};
 use machine::Machine;
 use machine::machines::fresh;
 use program::Program;
-use std::num::{wrapping_add_u64, wrapping_sub_u64};
+use std::io;
+use std::num::wrapping_add_u64;
+use std::time::{CpuClock, Duration};
 use step::{TraceStep, step};
 
-fn from_0_on(t: i64) -> u64
-    requires { pos 0 ≤ℤ t }
-{
-    t as u64
+// The processor time used so far; 0 where it cannot be had.
+fn used(rt: &impl CpuClock) -> Duration {
+    rt.process_cpu_time().unwrap_or(Duration::ZERO)
 }
 
-// The processor time used so far, in microseconds; 0 where it cannot be had.
-fn used() -> u64 {
-    let t = libc::clock();
-    if 0 <= t { from_0_on(t) } else { 0 }
-}
-
-fn report(name: &[u8], calls: u64, sum: u64, before: u64) {
-    let spent = wrapping_sub_u64(used(), before);
-    io::write_all(STDOUT_FILENO, name);
-    io::write_all(STDOUT_FILENO, b" ");
-    io::print_decimal(STDOUT_FILENO, sum);
-    io::write_all(STDOUT_FILENO, b"\n");
-    io::write_all(STDERR_FILENO, name);
-    io::write_all(STDERR_FILENO, b": ");
-    io::print_decimal(STDERR_FILENO, calls);
-    io::write_all(STDERR_FILENO, b" calls, ");
-    io::print_decimal(STDERR_FILENO, spent);
-    io::write_all(STDERR_FILENO, b" microseconds\n");
+fn report(
+    rt: &(impl CpuClock + Print + Eprint),
+    name: &str,
+    calls: u64,
+    sum: u64,
+    before: Duration,
+) -> io::Result<()> {
+    let spent = used(rt).saturating_sub(before).as_micros();
+    println!(rt; "{name} {sum}")?;
+    eprintln!(rt; "{name}: {calls} calls, {spent} microseconds")
 }
 
 // ---- reading: the longest good file, with another value in its last condition each time
@@ -65,8 +58,8 @@ fn longest_file() -> [u8; 647]
     "
 }
 
-fn readings(calls: u64) {
-    let before = used();
+fn readings(rt: &(impl CpuClock + Print + Eprint), calls: u64) -> io::Result<()> {
+    let before = used(rt);
     let mut file = longest_file();
     let mut sum = 0u64;
     for i in 0..calls {
@@ -76,7 +69,7 @@ fn readings(calls: u64) {
         let q = p.question[7];
         sum = wrapping_add_u64(sum, q.value as u64);
     }
-    report(b"read", calls, sum, before);
+    report(rt, "read", calls, sum, before)
 }
 
 // ---- steps: store buffering, both threads from the start to the end, with another value in a register each time
@@ -131,8 +124,8 @@ fn one_run(p: Program, x: Machine) -> Machine {
     execute(p, c, 1, 0)
 }
 
-fn steps(runs: u64) {
-    let before = used();
+fn steps(rt: &(impl CpuClock + Print + Eprint), runs: u64) -> io::Result<()> {
+    let before = used(rt);
     let p = store_buffering();
     let mut sum = 0u64;
     for i in 0..runs {
@@ -141,7 +134,7 @@ fn steps(runs: u64) {
         let s = x.threads[1];
         sum = wrapping_add_u64(sum, m.count as u64 + s.position as u64);
     }
-    report(b"six steps", runs, sum, before);
+    report(rt, "six steps", runs, sum, before)
 }
 
 // ---- certification: a load before the promised store, with another value in a register each time
@@ -155,8 +148,8 @@ fn load_buffering() -> Program {
     r.program
 }
 
-fn certifications(calls: u64) {
-    let before = used();
+fn certifications(rt: &(impl CpuClock + Print + Eprint), calls: u64) -> io::Result<()> {
+    let before = used(rt);
     let p = load_buffering();
     let x = promise(p, promise(p, fresh(), 0, 0, 1), 1, 1, 1);
     let mut sum = 0u64;
@@ -169,11 +162,11 @@ fn certifications(calls: u64) {
             Certified::Refused(n) => sum = wrapping_add_u64(sum, n as u64),
         }
     }
-    report(b"certify", calls, sum, before);
+    report(rt, "certify", calls, sum, before)
 }
 
-fn main() {
-    readings(100000);
-    steps(100000);
-    certifications(100000);
+fn main(rt: HostRuntime) -> io::Result<()> {
+    readings(&rt, 100000)?;
+    steps(&rt, 100000)?;
+    certifications(&rt, 100000)
 }

@@ -1,38 +1,42 @@
 // A file cut off at every length, and with each byte set to each of twelve values.
 use crate::read;
 use cases_rows::file::File;
+use std::io;
 use text::{count, number, text};
 
-fn cuts(bytes: &[u8; 700], len: usize) {
+fn cuts(rt: &impl Print, bytes: &[u8; 700], len: usize) -> io::Result<()> {
     for n in 0..len {
-        text(b"cut");
-        count(b'-', n);
-        read(bytes, n);
+        text(rt, b"cut")?;
+        count(rt, b'-', n)?;
+        read(rt, bytes, n)?;
     }
+    Ok(())
 }
 
-fn set(f: File, at: usize, v: u8) {
+fn set(rt: &impl Print, f: File, at: usize, v: u8) -> io::Result<()> {
     let mut b = f.bytes;
     if at < 700 {
         b[at] = v;
     }
-    text(b"set");
-    count(b'-', at);
-    number(b'-', v);
-    read(&b, f.len);
+    text(rt, b"set")?;
+    count(rt, b'-', at)?;
+    number(rt, b'-', v)?;
+    read(rt, &b, f.len)
 }
 
-fn sets(f: File, at: usize) {
+fn sets(rt: &impl Print, f: File, at: usize) -> io::Result<()> {
     let values = [0, 1, 2, 3, 4, 5, 7, 8, 15, 16, 17, 255];
     for i in 0..12 {
-        set(f, at, values[i]);
+        set(rt, f, at, values[i])?;
     }
+    Ok(())
 }
 
-pub fn changed(f: File) {
+pub fn changed(rt: &impl Print, f: File) -> io::Result<()> {
     let b = f.bytes;
-    cuts(&b, f.len);
+    cuts(rt, &b, f.len)?;
     for at in 0..f.len {
-        sets(f, at);
+        sets(rt, f, at)?;
     }
+    Ok(())
 }

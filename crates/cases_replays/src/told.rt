@@ -1,34 +1,35 @@
 // A replay, and its answer printed on one line.
 use cases_rows::show::state;
+use std::io;
 use text::{count, number, text};
 use trace_replay::ReplayAnswer;
 
-fn answer(file: &[u8], refusal: u8, index: usize, place: usize) {
-    text(file);
-    number(b' ', refusal);
-    count(b' ', index);
-    count(b' ', place);
+fn answer(rt: &impl Print, file: &[u8], refusal: u8, index: usize, place: usize) -> io::Result<()> {
+    text(rt, file)?;
+    number(rt, b' ', refusal)?;
+    count(rt, b' ', index)?;
+    count(rt, b' ', place)
 }
 
-fn yes_or_no(b: bool) {
+fn yes_or_no(rt: &impl Print, b: bool) -> io::Result<()> {
     if b {
-        text(b" yes");
+        text(rt, b" yes")
     } else {
-        text(b" no");
+        text(rt, b" no")
     }
 }
 
-pub fn replayed(name: &[u8], file: &[u8], trace: &[u8]) {
+pub fn replayed(rt: &impl Print, name: &[u8], file: &[u8], trace: &[u8]) -> io::Result<()> {
     let r = trace_replay::replay(file, trace);
-    text(name);
+    text(rt, name)?;
     let a = r.answer;
     match a {
-        ReplayAnswer::Good => answer(b" good", 0, 0, 0),
-        ReplayAnswer::ProgramRefused(n, place) => answer(b" program", n, 0, place),
-        ReplayAnswer::TraceRefused(n, index, place) => answer(b" trace", n, index, place),
+        ReplayAnswer::Good => answer(rt, b" good", 0, 0, 0)?,
+        ReplayAnswer::ProgramRefused(n, place) => answer(rt, b" program", n, 0, place)?,
+        ReplayAnswer::TraceRefused(n, index, place) => answer(rt, b" trace", n, index, place)?,
     }
-    count(b' ', r.steps);
-    yes_or_no(r.complete);
-    yes_or_no(r.holds);
-    state(r.machine);
+    count(rt, b' ', r.steps)?;
+    yes_or_no(rt, r.complete)?;
+    yes_or_no(rt, r.holds)?;
+    state(rt, r.machine)
 }

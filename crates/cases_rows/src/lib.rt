@@ -1,13 +1,14 @@
 // What the programs that run rows of cases share: where the parts of a row end, the bytes that a row writes out, and states printed.
 #![tactic(auto)]
+
 pub mod file;
 pub mod row;
 pub mod show;
 
-ghost use Rattle.std.specs.Prelude.{◌<◌, ◌≤◌, length};
+ghost use Rattle.std.specs.Prelude.{◌<◌, ◌≤◌, length, IfOk};
 
-use libc::STDIN_FILENO;
-use text::text;
+use std::io;
+use text::{read_full, text};
 
 // The first place from `from` on that holds b, or the end.
 pub fn find(s: &[u8], from: usize, b: u8) -> usize
@@ -51,18 +52,18 @@ pub fn line_at(s: &[u8], at: usize) -> Line
 }
 
 // A row that cannot be read says so, and the comparison of what is printed shows it.
-pub fn unread(name: &[u8]) {
-    text(name);
-    text(b" cannot be read\n");
+pub fn unread(rt: &impl Print, name: &[u8]) -> io::Result<()> {
+    text(rt, name)?;
+    text(rt, b" cannot be read\n")
 }
 
 // Standard input up to its end. A buffer that it fills may have cut it off.
-pub fn input(buffer: &mut [u8]) -> usize
-    ensures { result ≤ length buffer.new }
+pub fn input(rt: &(impl Input + Print), buffer: &mut [u8]) -> io::Result<usize>
+    ensures { IfOk result (λ n. n ≤ length buffer.new) }
 {
-    let n = io::read_full(STDIN_FILENO, buffer);
+    let n = read_full(&mut rt.reader(), buffer)?;
     if n == buffer.len() {
-        unread(b"the end of the input");
+        unread(rt, b"the end of the input")?;
     }
-    n
+    Ok(n)
 }

@@ -8,6 +8,7 @@ use certify::Certified;
 use machine::machines::fresh;
 use machine::{Machine, Message};
 use program::Program;
+use std::io;
 use step::{Stepped, TraceStep, step_refusal};
 use text::{number, text};
 
@@ -28,15 +29,15 @@ pub struct Command {
     pub d: u8,
 }
 
-fn told(name: &[u8], r: Stepped) {
-    text(name);
+fn told(rt: &impl Print, name: &[u8], r: Stepped) -> io::Result<()> {
+    text(rt, name)?;
     let answer = r.answer;
-    number(b' ', step_refusal(answer));
-    state(r.machine);
+    number(rt, b' ', step_refusal(answer))?;
+    state(rt, r.machine)
 }
 
 // s: a step, printed with its number; t: a step on the way, not printed.
-fn stepped(name: &[u8], s: Setting, k: Command) -> Machine {
+fn stepped(rt: &impl Print, name: &[u8], s: Setting, k: Command) -> io::Result<Machine> {
     let t = TraceStep {
         kind: k.a,
         thread: k.b,
@@ -45,22 +46,22 @@ fn stepped(name: &[u8], s: Setting, k: Command) -> Machine {
     };
     let r = step::step(s.program, s.machine, t);
     if k.letter == b's' {
-        told(name, r);
+        told(rt, name, r)?;
     }
-    r.machine
+    Ok(r.machine)
 }
 
 // c: is the thread certified?
-fn certified(name: &[u8], s: Setting, i: u8) {
-    text(name);
+fn certified(rt: &impl Print, name: &[u8], s: Setting, i: u8) -> io::Result<()> {
+    text(rt, name)?;
     let r = certify::certify(s.program, s.machine, i);
     let answer = r.answer;
     match answer {
-        Certified::Yes => text(b" yes"),
-        Certified::No => text(b" no"),
-        Certified::Refused(n) => number(b' ', n),
+        Certified::Yes => text(rt, b" yes")?,
+        Certified::No => text(rt, b" no")?,
+        Certified::Refused(n) => number(rt, b' ', n)?,
     }
-    state(s.machine);
+    state(rt, s.machine)
 }
 
 // n and u.
@@ -86,21 +87,21 @@ fn thread_set(x: Machine, k: Command) -> Machine {
     x.moved(i, x.memory, s)
 }
 
-fn act(name: &[u8], mut s: Setting, k: Command) -> Setting {
+fn act(rt: &impl Print, name: &[u8], mut s: Setting, k: Command) -> io::Result<Setting> {
     let letter = k.letter;
     match letter {
         b's' | b't' => {
-            let x = stepped(name, s, k);
+            let x = stepped(rt, name, s, k)?;
             s.machine = x;
         }
-        b'c' => certified(name, s, k.a),
+        b'c' => certified(rt, name, s, k.a)?,
         b'g' => s.program = program_field(s.program, k.a, k.b),
         b'i' => s.program = code_field(s.program, k.a, k.b, k.c),
         b'n' | b'u' => s.machine = memory_set(s.machine, k),
         b'p' | b'r' | b'h' | b'f' | b'v' | b'o' => s.machine = thread_set(s.machine, k),
-        _ => unread(name),
+        _ => unread(rt, name)?,
     }
-    s
+    Ok(s)
 }
 
 // A digit stands for its distance from '0': @ is 16, A is 17, / is 255.
@@ -121,17 +122,18 @@ fn command_at(s: &[u8], at: usize) -> Command
 }
 
 // Each command has one space before it; one may come after the last.
-pub fn walk(name: &[u8], p: Program, commands: &[u8]) {
+pub fn walk(rt: &impl Print, name: &[u8], p: Program, commands: &[u8]) -> io::Result<()> {
     let mut s = Setting {
         program: p,
         machine: fresh(),
     };
     let mut at = 0;
     while 6 <= commands.len() - at {
-        s = act(name, s, command_at(commands, at));
+        s = act(rt, name, s, command_at(commands, at))?;
         at = at + 6;
     }
     if 1 < commands.len() - at {
-        unread(name);
+        unread(rt, name)?;
     }
+    Ok(())
 }

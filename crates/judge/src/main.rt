@@ -1,60 +1,59 @@
 // The printing program, `judge [BUDGET] < FILE`: a program file on standard input, its answer on standard output.
 #![tactic(auto)]
+
 mod answers;
 
 use answers::answer;
 use judge_budget::{Budget, budget_of};
-use libc::{STDERR_FILENO, STDIN_FILENO};
+use std::env::{Env, FillError};
+use std::io;
+use text::read_full;
 
-fn complain(what: &[u8]) {
-    io::write_all(STDERR_FILENO, b"judge: ");
-    io::write_all(STDERR_FILENO, what);
-    io::write_all(STDERR_FILENO, b"\n");
+fn complain(rt: &impl Eprint, what: &str) -> io::Result<()> {
+    eprintln!(rt; "judge: {what}")
 }
 
-fn judge_file(file: &[u8], budget: u64) {
+fn judge_file(rt: &impl Print, file: &[u8], budget: u64) -> io::Result<()> {
     let mut area = [0u8; 480];
     let mut table = search_table::empty();
     let a = search::search_within(file, budget, &mut area, &mut table);
-    answer(a, &area);
-}
-
-// Whether the input has ended: a read that fails, and not only one at the end, ends read_full.
-fn at_end() -> bool {
-    let mut one = [0u8; 1];
-    libc::read(STDIN_FILENO, &mut one) == 0
+    answer(rt, a, &area)
 }
 
 // Reads at most 4,096 bytes: a longer input has the same answer as its first 4,096 bytes (`long_answer`, proofs/Long.antt).
-fn judge_input(budget: u64) {
-    let mut file = io::buffer();
-    let n = io::read_full(STDIN_FILENO, &mut file);
-    if n < 4096 {
-        if !at_end() {
-            complain(b"standard input cannot be read");
-            return;
-        }
+fn judge_input(rt: &(impl Input + Print + Eprint), budget: u64) -> io::Result<()> {
+    let mut file = [0u8; 4096];
+    match read_full(&mut rt.reader(), &mut file) {
+        Ok(n) => judge_file(rt, &file[..n], budget),
+        Err(_) => complain(rt, "standard input cannot be read"),
     }
-    judge_file(&file[..n], budget);
+}
+
+// What the first argument gives, and 1,000,000 where there is none. One of more than 4,096 bytes is no budget.
+fn given(rt: &impl Env) -> Budget {
+    let mut text = [0u8; 4096];
+    match rt.arg(1, &mut text) {
+        Ok(len) => budget_of(&text[..len]),
+        Err(FillError::NotPresent) => Budget::Given(1000000),
+        Err(FillError::TooLong) => Budget::Bad,
+    }
+}
+
+fn has_second_argument(rt: &impl Env) -> bool {
+    let mut none = [0u8; 0];
+    !matches!(rt.arg(2, &mut none), Err(FillError::NotPresent))
 }
 
 // An argument that is no budget, an empty one, one of more than 4,096 bytes, or a second one is refused.
-fn main() {
-    let n = os::arg_count();
-    if n < 2 {
-        judge_input(1000000);
-        return;
+fn main(rt: HostRuntime) -> io::Result<()> {
+    if has_second_argument(&rt) {
+        return complain(&rt, "one budget at most");
     }
-    if 2 < n {
-        complain(b"one budget at most");
-        return;
-    }
-    let mut text = io::buffer();
-    let len = os::arg(1, &mut text);
-    match budget_of(&text[..len]) {
-        Budget::Given(budget) => judge_input(budget),
+    match given(&rt) {
+        Budget::Given(budget) => judge_input(&rt, budget),
         Budget::Bad => complain(
-            b"the budget is a decimal number from 0 to 18446744073709551615, or all",
+            &rt,
+            "the budget is a decimal number from 0 to 18446744073709551615, or all",
         ),
     }
 }
