@@ -28,7 +28,7 @@ fn beside(rt: &impl Print, published: &[u8], verdict: &[u8]) -> io::Result<Came>
         text(rt, b" agrees\n")?;
         return Ok(Came::Agrees);
     }
-    if verdict == b"not-finished" {
+    if verdict == b"not-finished".as_slice() {
         text(rt, b" open\n")?;
         return Ok(Came::Open);
     }
