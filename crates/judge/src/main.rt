@@ -3,28 +3,37 @@
 
 mod answers;
 
+ghost use Rattle.std.specs.Prelude.{◌*◌, ◌≤◌, length, IfOk, IfSome};
+ghost use Rattle.search.specs.Answers.{Searched};
+
 use answers::answer;
 use judge_budget::{Budget, budget_of};
+use search::Answer;
 use std::env::{Env, FillError};
 use std::io;
+use std::io::Read;
 use text::read_full;
 
 fn complain(rt: &impl Eprint, what: &str) -> io::Result<()> {
     eprintln!(rt; "judge: {what}")
 }
 
-fn judge_file(rt: &impl Print, file: &[u8], budget: u64) -> io::Result<()> {
-    let mut area = [0u8; 480];
+// The answer to the whole input, of which it reads at most 4,096 bytes: a longer one has the answer of those (`long_answer`,
+// proofs/Long.antt).
+fn judged<R: Read>(input: &mut R, budget: u64, area: &mut [u8; 480]) -> io::Result<Answer>
+    ensures trace { IfOk result (λ a. 6 * a.steps ≤ length area.new) }
+    ensures whole { IfOk result (λ a. IfSome (R.remaining input.old) (λ file. Searched file budget area.old a area.new)) }
+{
+    let mut file = [0u8; 4096];
+    let n = read_full(input, &mut file)?;
     let mut table = search_table::empty();
-    let a = search::search_within(file, budget, &mut area, &mut table);
-    answer(rt, a, &area)
+    Ok(search::search_within(&file[..n], budget, area, &mut table))
 }
 
-// Reads at most 4,096 bytes: a longer input has the same answer as its first 4,096 bytes (`long_answer`, proofs/Long.antt).
 fn judge_input(rt: &(impl Input + Print + Eprint), budget: u64) -> io::Result<()> {
-    let mut file = [0u8; 4096];
-    match read_full(&mut rt.reader(), &mut file) {
-        Ok(n) => judge_file(rt, &file[..n], budget),
+    let mut area = [0u8; 480];
+    match judged(&mut rt.reader(), budget, &mut area) {
+        Ok(a) => answer(rt, a, &area),
         Err(_) => complain(rt, "standard input cannot be read"),
     }
 }
