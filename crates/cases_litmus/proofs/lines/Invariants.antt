@@ -1,3 +1,5 @@
+-- `cases_litmus::lines` meets its contract.
+-- Assumes nothing.
 use Rattle.std.proofs.Common.{length, ◌-◌, ◌≤◌}
 use Rattle.cases_litmus.proofs.lines.Given as goal
 

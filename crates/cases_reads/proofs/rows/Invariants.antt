@@ -1,3 +1,5 @@
+-- `cases_reads::rows` meets its contract.
+-- Assumes nothing.
 use Rattle.std.proofs.Common.{length, ◌-◌}
 use Rattle.cases_rows.specs.Row.{RowWithin}
 use Rattle.cases_reads.proofs.rows.Given as goal

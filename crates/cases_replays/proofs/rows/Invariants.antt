@@ -1,3 +1,5 @@
+-- `cases_replays::rows` meets its contract.
+-- Assumes nothing.
 use Rattle.std.proofs.Common.{length, ◌-◌}
 use Rattle.cases_rows.specs.Row.{RowWithin}
 use Rattle.cases_replays.proofs.rows.Given as goal

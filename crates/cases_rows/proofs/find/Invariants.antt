@@ -1,3 +1,5 @@
+-- `cases_rows::find` meets its contract.
+-- Assumes nothing.
 use Rattle.std.proofs.Common.{length, ◌-◌, ◌≤◌}
 use Rattle.cases_rows.proofs.find.Given as goal
 

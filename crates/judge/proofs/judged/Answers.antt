@@ -1,3 +1,5 @@
+-- `judge::judged` meets its contract: what is read of the input has the answer of the whole.
+-- Assumes nothing.
 use Rattle.std.proofs.Common.{rules}
 use Rattle.judge.proofs.Room.{steps_fit}
 use Rattle.judge.proofs.Whole.{whole_input}

@@ -1,3 +1,5 @@
+-- `text::read_full` meets its contract: the first `done` bytes of the buffer are those that the reader gave.
+-- Assumes nothing.
 use Rattle.std.proofs.Common.{length, take, ◌-◌, ◌≤◌}
 use Rattle.std.specs.Io.KnownBytes.{Consumes}
 use Rattle.text.proofs.read_full.Given as goal

@@ -1,3 +1,5 @@
+-- `cases_rows::row::row_from` meets its contract.
+-- Assumes nothing.
 use Rattle.std.proofs.Common.{length, ◌-◌, ◌≤◌}
 use Rattle.cases_rows.proofs.row.row_from.Given as goal
 

@@ -1,3 +1,5 @@
+-- `cases_steps::walk::walk` meets its contract.
+-- Assumes nothing.
 use Rattle.std.proofs.Common.{length, ◌-◌, ◌≤◌}
 use Rattle.cases_steps.proofs.walk.walk.Given as goal
 
