@@ -1,6 +1,6 @@
 -- Bytes within a list, and entries of equal width one after the other.
 -- Assumes nothing.
-use Rattle.std.specs.Prelude.{List, [], ◌∷◌, ◌++◌, ℕ, zero, suc, ◌+◌, drop}
+use Rattle.std.specs.Prelude.{List, [], ◌∷◌, ◌++◌, ℕ, zero, suc, drop}
 
 -- the bytes of n entries from k on, one after the other
 unfoldable pub joined : (ℕ → List ℕ) → ℕ → ℕ → List ℕ

@@ -1,7 +1,6 @@
 -- `capi::blyskota_certify` meets its contract.
 -- Assumes nothing.
 use native.Mathlib.Omega.{arith}
-use borrow.Author.Rules.{rules}
 use Rattle.certify.specs.Answers.{certify}
 use Rattle.encode_answers.specs.Value.{certified_bytes}
 use Rattle.capi.proofs.Called.{short, other_program, other_machine, answer_of_values}

@@ -1,6 +1,5 @@
 -- `capi::blyskota_outcomes` meets its contract.
 -- Assumes nothing.
-use borrow.Author.Rules.{rules}
 use Rattle.encode_answers.specs.Value.{listed_bytes}
 use Rattle.capi.proofs.Called.{one, short_beside, answer_beside}
 use Rattle.capi.specs.Calls.{outcomes_call}

@@ -1,6 +1,5 @@
 -- `capi::blyskota_outcomes_within` meets its contract.
 -- Assumes nothing.
-use borrow.Author.Rules.{rules}
 use Rattle.encode_answers.specs.Value.{listed_within_bytes}
 use Rattle.capi.proofs.Called.{two, short_beside, answer_beside}
 use Rattle.capi.specs.Calls.{outcomes_within_call}

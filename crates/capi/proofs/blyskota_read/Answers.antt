@@ -1,7 +1,6 @@
 -- `capi::blyskota_read` meets its contract.
 -- Assumes nothing.
 use native.Mathlib.Omega.{arith}
-use borrow.Author.Rules.{rules}
 use Rattle.encode_answers.specs.Value.{read_bytes}
 use Rattle.capi.proofs.Called.{short, answer_of_file}
 use Rattle.capi.specs.Calls.{read_call}

@@ -1,7 +1,6 @@
 -- `capi::blyskota_replay` meets its contract.
 -- Assumes nothing.
 use native.Mathlib.Omega.{arith}
-use borrow.Author.Rules.{rules}
 use Rattle.encode_answers.specs.Value.{replayed_bytes}
 use Rattle.capi.proofs.Called.{short, answer_of_file}
 use Rattle.capi.specs.Calls.{replay_call}

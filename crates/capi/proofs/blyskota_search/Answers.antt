@@ -1,6 +1,5 @@
 -- `capi::blyskota_search` meets its contract.
 -- Assumes nothing.
-use borrow.Author.Rules.{rules}
 use Rattle.search.proofs.Promise.{few_steps}
 use Rattle.encode_answers.specs.Value.{searched_bytes}
 use Rattle.capi.proofs.Called.{one, short_beside, answer_beside}

@@ -1,6 +1,5 @@
 -- `capi::blyskota_search_within` meets its contract.
 -- Assumes nothing.
-use borrow.Author.Rules.{rules}
 use Rattle.search.proofs.Promise.{few_steps}
 use Rattle.encode_answers.specs.Value.{within_bytes}
 use Rattle.capi.proofs.Called.{two, short_beside, answer_beside}

@@ -1,7 +1,6 @@
 -- `capi::blyskota_step` meets its contract.
 -- Assumes nothing.
 use native.Mathlib.Omega.{arith}
-use borrow.Author.Rules.{rules}
 use Rattle.step.specs.Step.{step}
 use Rattle.step.specs.Answers.{stepped}
 use Rattle.encode_answers.specs.Value.{stepped_bytes}

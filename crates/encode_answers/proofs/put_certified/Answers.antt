@@ -1,7 +1,6 @@
 -- `encode_answers::put_certified` meets its contract: four bytes, then the run's entries.
 -- Assumes nothing.
 use native.Mathlib.Omega.{arith}
-use borrow.Author.Rules.{rules}
 use Rattle.encode_answers.specs.Value.{certified_bytes}
 use Rattle.encode_bytes.proofs.Putting.{put_then}
 use Rattle.encode_answers.proofs.put_certified.Goals as goal

@@ -1,11 +1,9 @@
 -- `encode_answers::put_entries` meets its contract: the loop writes 16 entries of 2 bytes.
 -- Assumes nothing.
-use mathlib.Core.Path.{refl}
 use Prim.Native.Nat.{◌+◌, ◌-◌, ◌*◌}
-use native.Mathlib.Omega.{arith}
 use lib.ListN.{get_or}
 use Rattle.certify_runs.specs.Values.{no_step}
-use Rattle.encode_bytes.proofs.Putting.{Putting, putting_none, putting_more, putting_all}
+use Rattle.encode_bytes.proofs.Putting.{Putting}
 use Rattle.encode_answers.specs.Value.{entry_bytes}
 use Rattle.encode_answers.proofs.put_entries.Given as goal
 

@@ -1,7 +1,6 @@
 -- `encode_answers::put_found` meets its contract: part after part.
 -- Assumes nothing.
 use native.Mathlib.Omega.{arith}
-use borrow.Author.Rules.{rules}
 use Rattle.encode_answers.specs.Value.{found_bytes}
 use Rattle.encode_bytes.proofs.Putting.{put_then}
 use Rattle.encode_answers.proofs.put_found.Goals as goal

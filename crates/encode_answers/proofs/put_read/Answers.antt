@@ -1,7 +1,6 @@
 -- `encode_answers::put_read` meets its contract: part after part.
 -- Assumes nothing.
 use native.Mathlib.Omega.{arith}
-use borrow.Author.Rules.{rules}
 use Rattle.encode_answers.specs.Value.{read_bytes}
 use Rattle.encode_bytes.proofs.Putting.{put_then}
 use Rattle.encode_answers.proofs.put_read.Goals as goal

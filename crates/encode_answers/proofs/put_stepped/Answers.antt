@@ -1,7 +1,6 @@
 -- `encode_answers::put_stepped` meets its contract: the refusal, then the machine.
 -- Assumes nothing.
 use native.Mathlib.Omega.{arith}
-use borrow.Author.Rules.{rules}
 use Rattle.encode_answers.specs.Value.{stepped_bytes}
 use Rattle.encode_bytes.proofs.Putting.{put_then}
 use Rattle.encode_answers.proofs.put_stepped.Goals as goal

@@ -1,9 +1,8 @@
 -- `encode_bytes::clear_front` meets its contract: the loop sets byte after byte to 0.
 -- Assumes nothing.
 use mathlib.Core.Path.{refl}
-use Prim.Native.Nat.{◌-◌}
 use native.Mathlib.Omega.{arith}
-use Rattle.encode_bytes.proofs.Clearing.{Clearing, clearing_none, clearing_same, clearing_more, clearing_all}
+use Rattle.encode_bytes.proofs.Clearing.{clearing_none, clearing_same, clearing_more, clearing_all}
 use Rattle.encode_bytes.proofs.clear_front.Goals as goal
 
 pub loop-k-init : goal.loop-k-init

@@ -1,7 +1,6 @@
 -- `encode_bytes::put_one` meets its contract: one store.
 -- Assumes nothing.
 use native.Mathlib.Omega.{arith}
-use borrow.Author.Rules.{rules}
 use Rattle.encode_bytes.proofs.Putting.{put_one}
 use Rattle.encode_bytes.proofs.put_one.Goals as goal
 

@@ -1,7 +1,6 @@
 -- `encode_bytes::put_u64` meets its contract: the low half and then the high one.
 -- Assumes nothing.
 use native.Mathlib.Omega.{arith}
-use borrow.Author.Rules.{rules}
 use Rattle.encode_bytes.proofs.Putting.{put_then}
 use Rattle.encode_bytes.proofs.put_u64.Goals as goal
 

@@ -1,6 +1,5 @@
 -- `encode_bytes::u64_at` meets its contract.
 -- Assumes nothing.
-use borrow.Author.Rules.{rules}
 use Rattle.encode_bytes.proofs.Words.{word64_at}
 use Rattle.encode_bytes.proofs.u64_at.Goals as goal
 

@@ -1,12 +1,11 @@
 -- `encode_machine::coherence_from` meets its contract: the loop reads 16 bytes.
 -- Assumes nothing.
 use mathlib.Core.Path.{refl}
-use Prim.Native.Nat.{◌+◌, ◌-◌}
 use native.Mathlib.Nat.{add-zero}
 use native.Mathlib.Omega.{arith}
 use lib.Seq.{get_or-drop}
 use Rattle.program.specs.File.{byte_at}
-use Rattle.encode_bytes.proofs.Filling.{Filling, filling_one, filling_more, filling_all}
+use Rattle.encode_bytes.proofs.Filling.{filling_one, filling_more, filling_all}
 use Rattle.encode_machine.proofs.coherence_from.Goals as goal
 
 pub loop-k-init : goal.loop-k-init

@@ -1,6 +1,5 @@
 -- `encode_machine::machine_of` meets its contract: the memory, then the threads.
 -- Assumes nothing.
-use borrow.Author.Rules.{rules}
 use Rattle.encode_machine.specs.Value.{machine_of}
 use Rattle.encode_machine.proofs.machine_of.Goals as goal
 

@@ -1,9 +1,7 @@
 -- `encode_machine::messages_from` meets its contract: the loop reads 16 entries of 3 bytes.
 -- Assumes nothing.
-use mathlib.Core.Path.{refl}
 use Prim.Native.Nat.{◌+◌, ◌-◌, ◌*◌}
-use native.Mathlib.Omega.{arith}
-use Rattle.encode_bytes.proofs.Filling.{Filling, filling_one, filling_more, filling_all}
+use Rattle.encode_bytes.proofs.Filling.{Filling}
 use Rattle.encode_machine.specs.Value.{message_from}
 use Rattle.encode_machine.proofs.messages_from.Given as goal
 

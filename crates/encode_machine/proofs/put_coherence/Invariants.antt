@@ -1,11 +1,9 @@
 -- `encode_machine::put_coherence` meets its contract: the loop writes 16 bytes.
 -- Assumes nothing.
-use mathlib.Core.Path.{refl}
 use mathlib.Core.List.{[], ◌∷◌}
 use Prim.Native.Nat.{◌+◌, ◌-◌}
-use native.Mathlib.Omega.{arith}
 use Rattle.theory_views.specs.Views.{view_at}
-use Rattle.encode_bytes.proofs.Putting.{Putting, putting_none, putting_more, putting_all, put_one}
+use Rattle.encode_bytes.proofs.Putting.{Putting}
 use Rattle.encode_machine.proofs.put_coherence.Given as goal
 
 abbrev pub invariant-loop-k : goal.invariant-loop-k

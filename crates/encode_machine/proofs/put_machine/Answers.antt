@@ -1,7 +1,6 @@
 -- `encode_machine::put_machine` meets its contract: the memory, then the threads.
 -- Assumes nothing.
 use native.Mathlib.Omega.{arith}
-use borrow.Author.Rules.{rules}
 use Rattle.encode_bytes.proofs.Putting.{put_then}
 use Rattle.encode_machine.specs.Value.{machine_bytes}
 use Rattle.encode_machine.proofs.Lengths.{memory_length}

@@ -1,7 +1,6 @@
 -- `encode_machine::put_memory` meets its contract: the count, then the messages.
 -- Assumes nothing.
 use native.Mathlib.Omega.{arith}
-use borrow.Author.Rules.{rules}
 use Rattle.encode_bytes.proofs.Putting.{put_then}
 use Rattle.encode_machine.specs.Value.{memory_bytes}
 use Rattle.encode_machine.proofs.put_memory.Goals as goal

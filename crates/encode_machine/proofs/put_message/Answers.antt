@@ -3,7 +3,6 @@
 use native.Mathlib.Numerals.{add-one, add-two}
 use native.Mathlib.Omega.{arith}
 use lib.ListN.{length-set}
-use borrow.Author.Rules.{rules}
 use Rattle.encode_bytes.proofs.Putting.{put_run}
 use Rattle.encode_machine.specs.Value.{message_bytes}
 use Rattle.encode_machine.proofs.put_message.Goals as goal

@@ -1,12 +1,8 @@
 -- `encode_machine::put_messages` meets its contract: the loop writes 16 entries of 3 bytes.
 -- Assumes nothing.
 use mathlib.Core.Path.{refl}
-use Prim.Native.Nat.{◌+◌, ◌-◌, ◌*◌}
 use native.Mathlib.Omega.{arith}
-use lib.ListN.{get_or}
-use Rattle.machine.specs.State.{no_message}
-use Rattle.encode_bytes.proofs.Putting.{Putting, putting_none, putting_more, putting_all}
-use Rattle.encode_machine.specs.Value.{message_bytes}
+use Rattle.encode_bytes.proofs.Putting.{putting_none, putting_more, putting_all}
 use Rattle.encode_machine.proofs.put_messages.Goals as goal
 
 pub loop-k-init : goal.loop-k-init

@@ -1,11 +1,9 @@
 -- `encode_machine::put_registers` meets its contract: the loop writes 8 entries of 2 bytes.
 -- Assumes nothing.
-use mathlib.Core.Path.{refl}
 use Prim.Native.Nat.{◌+◌, ◌-◌, ◌*◌}
-use native.Mathlib.Omega.{arith}
 use lib.ListN.{get_or}
 use Rattle.machine.specs.State.{fresh_register}
-use Rattle.encode_bytes.proofs.Putting.{Putting, putting_none, putting_more, putting_all}
+use Rattle.encode_bytes.proofs.Putting.{Putting}
 use Rattle.encode_machine.specs.Value.{register_bytes}
 use Rattle.encode_machine.proofs.put_registers.Given as goal
 

@@ -1,7 +1,6 @@
 -- `encode_machine::put_thread` meets its contract: part after part.
 -- Assumes nothing.
 use native.Mathlib.Omega.{arith}
-use borrow.Author.Rules.{rules}
 use Rattle.encode_bytes.proofs.Putting.{put_then}
 use Rattle.encode_machine.specs.Value.{thread_bytes}
 use Rattle.encode_machine.proofs.Lengths.{registers_length, coherence_length, forward_length}

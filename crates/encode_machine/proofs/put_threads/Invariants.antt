@@ -1,12 +1,9 @@
 -- `encode_machine::put_threads` meets its contract: the loop writes 4 entries of 73 bytes.
 -- Assumes nothing.
-use mathlib.Core.Path.{refl}
 use Prim.Native.Nat.{◌+◌, ◌-◌, ◌*◌}
-use native.Mathlib.Omega.{arith}
 use Rattle.machine.specs.State.{thread_of}
-use Rattle.encode_bytes.proofs.Putting.{Putting, putting_none, putting_more, putting_all}
+use Rattle.encode_bytes.proofs.Putting.{Putting}
 use Rattle.encode_machine.specs.Value.{thread_bytes}
-use Rattle.encode_machine.proofs.Lengths.{thread_length}
 use Rattle.encode_machine.proofs.put_threads.Given as goal
 
 abbrev pub invariant-loop-i : goal.invariant-loop-i

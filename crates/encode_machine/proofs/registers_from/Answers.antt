@@ -1,10 +1,8 @@
 -- `encode_machine::registers_from` meets its contract: the loop reads 8 entries of 2 bytes.
 -- Assumes nothing.
 use mathlib.Core.Path.{refl}
-use Prim.Native.Nat.{◌+◌, ◌-◌, ◌*◌}
 use native.Mathlib.Omega.{arith}
-use Rattle.encode_bytes.proofs.Filling.{Filling, filling_one, filling_more, filling_all}
-use Rattle.encode_machine.specs.Value.{register_from}
+use Rattle.encode_bytes.proofs.Filling.{filling_one, filling_more, filling_all}
 use Rattle.encode_machine.proofs.registers_from.Goals as goal
 
 pub loop-k-init : goal.loop-k-init

@@ -1,7 +1,6 @@
 -- `encode_machine::thread_from` meets its contract: part after part.
 -- Assumes nothing.
 use mathlib.Core.Path.{sym}
-use borrow.Author.Rules.{rules}
 use Rattle.encode_machine.proofs.ThreadAt.{thread_at}
 use Rattle.encode_machine.proofs.thread_from.Goals as goal
 

@@ -1,10 +1,8 @@
 -- `encode_machine::threads_from` meets its contract: the loop reads 4 entries of 73 bytes.
 -- Assumes nothing.
 use mathlib.Core.Path.{refl}
-use Prim.Native.Nat.{◌+◌, ◌-◌, ◌*◌}
 use native.Mathlib.Omega.{arith}
-use Rattle.encode_bytes.proofs.Filling.{Filling, filling_one, filling_more, filling_all}
-use Rattle.encode_machine.specs.Value.{thread_from}
+use Rattle.encode_bytes.proofs.Filling.{filling_one, filling_more, filling_all}
 use Rattle.encode_machine.proofs.threads_from.Goals as goal
 
 pub loop-i-init : goal.loop-i-init

@@ -2,7 +2,6 @@
 -- Assumes nothing.
 use native.Mathlib.Nat.{add-zero}
 use lib.Seq.{get_or-drop, drop-drop}
-use borrow.Author.Rules.{rules}
 use Rattle.encode_program.specs.Value.{code_from}
 use Rattle.encode_program.proofs.code_from.Goals as goal
 

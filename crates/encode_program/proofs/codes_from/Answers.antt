@@ -1,10 +1,8 @@
 -- `encode_program::codes_from` meets its contract: the loop reads 4 entries of 113 bytes.
 -- Assumes nothing.
 use mathlib.Core.Path.{refl}
-use Prim.Native.Nat.{◌+◌, ◌-◌, ◌*◌}
 use native.Mathlib.Omega.{arith}
-use Rattle.encode_bytes.proofs.Filling.{Filling, filling_one, filling_more, filling_all}
-use Rattle.encode_program.specs.Value.{code_from}
+use Rattle.encode_bytes.proofs.Filling.{filling_one, filling_more, filling_all}
 use Rattle.encode_program.proofs.codes_from.Goals as goal
 
 pub loop-i-init : goal.loop-i-init

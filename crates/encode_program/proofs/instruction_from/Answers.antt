@@ -2,7 +2,6 @@
 -- Assumes nothing.
 use native.Mathlib.Nat.{add-zero}
 use lib.Seq.{get_or-drop}
-use borrow.Author.Rules.{rules}
 use Rattle.encode_program.proofs.instruction_from.Goals as goal
 
 pub returns : goal.returns

@@ -1,10 +1,8 @@
 -- `encode_program::instructions_from` meets its contract: the loop reads 16 entries of 7 bytes.
 -- Assumes nothing.
 use mathlib.Core.Path.{refl}
-use Prim.Native.Nat.{◌+◌, ◌-◌, ◌*◌}
 use native.Mathlib.Omega.{arith}
-use Rattle.encode_bytes.proofs.Filling.{Filling, filling_one, filling_more, filling_all}
-use Rattle.encode_program.specs.Value.{instruction_from}
+use Rattle.encode_bytes.proofs.Filling.{filling_one, filling_more, filling_all}
 use Rattle.encode_program.proofs.instructions_from.Goals as goal
 
 pub loop-k-init : goal.loop-k-init

@@ -1,6 +1,5 @@
 -- `encode_program::program_of` meets its contract: part after part.
 -- Assumes nothing.
-use borrow.Author.Rules.{rules}
 use Rattle.encode_program.specs.Value.{program_of}
 use Rattle.encode_program.proofs.program_of.Goals as goal
 

@@ -1,7 +1,6 @@
 -- `encode_program::put_code` meets its contract: the count, then the instructions.
 -- Assumes nothing.
 use native.Mathlib.Omega.{arith}
-use borrow.Author.Rules.{rules}
 use Rattle.encode_bytes.proofs.Putting.{put_then}
 use Rattle.encode_program.specs.Value.{code_bytes}
 use Rattle.encode_program.proofs.put_code.Goals as goal

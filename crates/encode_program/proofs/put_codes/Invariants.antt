@@ -1,12 +1,9 @@
 -- `encode_program::put_codes` meets its contract: the loop writes 4 entries of 113 bytes.
 -- Assumes nothing.
-use mathlib.Core.Path.{refl}
 use Prim.Native.Nat.{◌+◌, ◌-◌, ◌*◌}
-use native.Mathlib.Omega.{arith}
 use Rattle.program.specs.Program.{code_of}
-use Rattle.encode_bytes.proofs.Putting.{Putting, putting_none, putting_more, putting_all}
+use Rattle.encode_bytes.proofs.Putting.{Putting}
 use Rattle.encode_program.specs.Value.{code_bytes}
-use Rattle.encode_program.proofs.Lengths.{code_length}
 use Rattle.encode_program.proofs.put_codes.Given as goal
 
 abbrev pub invariant-loop-i : goal.invariant-loop-i

@@ -3,7 +3,6 @@
 use native.Mathlib.Numerals.{add-one, add-two, add-three}
 use native.Mathlib.Omega.{arith}
 use lib.ListN.{length-set}
-use borrow.Author.Rules.{rules}
 use Rattle.encode_bytes.proofs.Putting.{put_run}
 use Rattle.encode_program.specs.Value.{condition_bytes}
 use Rattle.encode_program.proofs.put_condition.Goals as goal

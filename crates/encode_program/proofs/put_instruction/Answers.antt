@@ -3,7 +3,6 @@
 use native.Mathlib.Numerals.{add-one, add-two, add-three, add-four, add_five, add_six}
 use native.Mathlib.Omega.{arith}
 use lib.ListN.{length-set}
-use borrow.Author.Rules.{rules}
 use Rattle.encode_bytes.proofs.Putting.{put_run}
 use Rattle.encode_program.specs.Value.{instruction_bytes}
 use Rattle.encode_program.proofs.put_instruction.Goals as goal

@@ -1,11 +1,8 @@
 -- `encode_program::put_instructions` meets its contract: the loop writes 16 entries of 7 bytes.
 -- Assumes nothing.
 use mathlib.Core.Path.{refl}
-use Prim.Native.Nat.{◌+◌, ◌-◌, ◌*◌}
 use native.Mathlib.Omega.{arith}
-use Rattle.program.specs.Program.{instruction_at}
-use Rattle.encode_bytes.proofs.Putting.{Putting, putting_none, putting_more, putting_all}
-use Rattle.encode_program.specs.Value.{instruction_bytes}
+use Rattle.encode_bytes.proofs.Putting.{putting_none, putting_more, putting_all}
 use Rattle.encode_program.proofs.put_instructions.Goals as goal
 
 pub loop-k-init : goal.loop-k-init

@@ -1,7 +1,6 @@
 -- `encode_program::put_program` meets its contract: part after part.
 -- Assumes nothing.
 use native.Mathlib.Omega.{arith}
-use borrow.Author.Rules.{rules}
 use Rattle.encode_bytes.proofs.Putting.{put_then}
 use Rattle.encode_program.specs.Value.{program_bytes}
 use Rattle.encode_program.proofs.Lengths.{codes_length}

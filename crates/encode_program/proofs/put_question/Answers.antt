@@ -1,12 +1,8 @@
 -- `encode_program::put_question` meets its contract: the loop writes 8 entries of 4 bytes.
 -- Assumes nothing.
 use mathlib.Core.Path.{refl}
-use Prim.Native.Nat.{◌+◌, ◌-◌, ◌*◌}
 use native.Mathlib.Omega.{arith}
-use lib.ListN.{get_or}
-use Rattle.program.specs.Program.{no_condition}
-use Rattle.encode_bytes.proofs.Putting.{Putting, putting_none, putting_more, putting_all}
-use Rattle.encode_program.specs.Value.{condition_bytes}
+use Rattle.encode_bytes.proofs.Putting.{putting_none, putting_more, putting_all}
 use Rattle.encode_program.proofs.put_question.Goals as goal
 
 pub loop-k-init : goal.loop-k-init

@@ -1,9 +1,7 @@
 -- `encode_program::question_from` meets its contract: the loop reads 8 entries of 4 bytes.
 -- Assumes nothing.
-use mathlib.Core.Path.{refl}
 use Prim.Native.Nat.{◌+◌, ◌-◌, ◌*◌}
-use native.Mathlib.Omega.{arith}
-use Rattle.encode_bytes.proofs.Filling.{Filling, filling_one, filling_more, filling_all}
+use Rattle.encode_bytes.proofs.Filling.{Filling}
 use Rattle.encode_program.specs.Value.{condition_from}
 use Rattle.encode_program.proofs.question_from.Given as goal
 

@@ -1,6 +1,5 @@
 -- `judge_budget::budget_of` meets its contract.
 -- Assumes nothing.
-use borrow.Author.Rules.{rules}
 use Rattle.judge_budget.proofs.Reading.{by_word, by_digits}
 use Rattle.judge_budget.proofs.budget_of.Goals as goal
 

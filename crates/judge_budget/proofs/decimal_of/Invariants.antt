@@ -1,9 +1,7 @@
 -- `judge_budget::decimal_of` meets its contract.
 -- Assumes nothing.
 use Prim.Native.Nat.{◌-◌}
-use native.Mathlib.Omega.{arith}
-use Rattle.judge_budget.proofs.Reading.{Read, none_read, read_start, read_below, read_above, read_large, read_more, read_all}
-use borrow.Author.Rules.{rules}
+use Rattle.judge_budget.proofs.Reading.{Read}
 use Rattle.judge_budget.proofs.decimal_of.Given as goal
 
 abbrev pub invariant-loop-i : goal.invariant-loop-i

@@ -1,7 +1,6 @@
 -- `judge_budget::is_all` meets its contract.
 -- Assumes nothing.
 use mathlib.Core.Path.{refl}
-use borrow.Author.Rules.{rules}
 use Rattle.judge_budget.proofs.Reading.{is_all_lem, not_all}
 use Rattle.judge_budget.proofs.is_all.Goals as goal
 

@@ -1,13 +1,10 @@
 -- `outcomes::list_program` meets its contract.
 -- Assumes nothing.
 use mathlib.Core.Path.{◌≡◌}
-use mathlib.Core.Logic.{⊎_elim}
 use mathlib.Core.List.{[], ◌∷◌}
 use native.Mathlib.Omega.{arith}
 use lib.ListN.{length, replicate}
-use borrow.Author.Rules.{rules}
 use Rattle.machine.specs.State.{fresh}
-use Rattle.search_outcomes.specs.Table.{row_width}
 use Rattle.search_outcomes.proofs.Rows.{width_least}
 use Rattle.search_arrivals.specs.declared.Aim.TheVariants.{Outcomes}
 use Rattle.search_arrivals.specs.Visits.{visiting, Reports}

@@ -1,6 +1,5 @@
 -- `outcomes::outcomes` meets its contract.
 -- Assumes nothing.
-use borrow.Author.Rules.{rules}
 use Rattle.trace_replay.proofs.Files.{good_formed}
 use Rattle.outcomes.proofs.Told.{file_listed, file_refused}
 use Rattle.outcomes.proofs.outcomes.Goals as goal

@@ -1,6 +1,5 @@
 -- `outcomes::outcomes_within` meets its contract.
 -- Assumes nothing.
-use borrow.Author.Rules.{rules}
 use Rattle.trace_replay.proofs.Files.{good_formed}
 use Rattle.outcomes.proofs.Told.{within_listed, within_refused}
 use Rattle.outcomes.proofs.outcomes_within.Goals as goal

@@ -8,7 +8,6 @@ use lib.ListN.{length}
 use Rattle.search_arrivals.specs.declared.Aim.TheVariants.{Question, Outcomes}
 use Rattle.search_visits.proofs.Start.{ready_fresh, cleared_holds, cleared_again, going_left, found_left}
 use Rattle.search.proofs.Told.{told_forbidden, told_allowed, told_unfinished}
-use borrow.Author.Rules.{rules}
 use Rattle.search.proofs.search_program.Goals as goal
 
 no_outcomes : {wide : Bool} → Question ≡ Outcomes wide → ⊥

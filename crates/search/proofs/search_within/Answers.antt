@@ -1,7 +1,6 @@
 -- `search::search_within` meets its contract.
 -- Assumes nothing.
 use Rattle.search.proofs.Told.{area_short, area_long, file_refused}
-use borrow.Author.Rules.{rules}
 use Rattle.trace_replay.proofs.Files.{good_formed}
 use Rattle.search.proofs.search_within.Goals as goal
 

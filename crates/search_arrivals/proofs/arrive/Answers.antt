@@ -1,7 +1,6 @@
 -- `search_arrivals::arrive` meets its contract.
 -- Assumes nothing.
 use native.Mathlib.Omega.{arith}
-use borrow.Author.Rules.{rules}
 use Rattle.search_arrivals.specs.Visits.{Meets}
 use Rattle.search_arrivals.proofs.Turns.{out_of_budget, at_the_end}
 use Rattle.search_arrivals.proofs.Known.{known_told, seen_known}

@@ -1,9 +1,8 @@
 -- `search_arrivals::at_end` meets its contract.
 -- Assumes nothing.
-use mathlib.Core.Path.{◌≡◌, refl, sym, ◌∙◌}
+use mathlib.Core.Path.{◌≡◌, sym, ◌∙◌}
 use mathlib.Core.Bool.{Bool, true, false}
 use Prim.Native.Nat.{ℕ}
-use borrow.Author.Rules.{rules}
 use Rattle.search_arrivals.specs.Visits.{Going, Found, Aim, Question, Outcomes, Over, Ending, at_end}
 use Rattle.search_arrivals.proofs.at_end.Goals as goal
 

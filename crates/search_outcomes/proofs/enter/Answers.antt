@@ -1,13 +1,10 @@
 -- `search_outcomes::enter` meets its contract: the place of the outcome among the rows decides.
 -- Assumes nothing.
-use mathlib.Core.Path.{◌≡◌, refl, sym}
-use mathlib.Core.Logic.{⊎_elim}
+use mathlib.Core.Path.{refl, sym}
 use Prim.Native.Nat.{◌+◌}
 use native.Mathlib.Omega.{arith}
 use lib.ListN.{get_or}
 use lib.Seq.{get_or-set_other}
-use borrow.Author.Rules.{rules}
-use Rattle.search_outcomes.specs.Table.{row_width}
 use Rattle.search_outcomes.proofs.Rows.{width_least}
 use Rattle.search_outcomes.proofs.Cases.{noted_full}
 use Rattle.search_outcomes.proofs.Noting.{Found, found, orderly_rising, found_before, found_old, found_room, found_key, found_few, same_there, other_there, found_there, found_over, found_in}

@@ -1,9 +1,6 @@
 -- `search_outcomes::is_same` meets its contract: where all bytes count as equal, each is the key's.
 -- Assumes nothing.
-use mathlib.Core.Logic.{⊎_elim}
-use Prim.Native.Nat.{◌-◌}
-use native.Mathlib.Omega.{arith}
-use Rattle.search_outcomes.proofs.Comparing.{Counting, counting_none, counting_equal, counting_other, counting_all}
+use Rattle.search_outcomes.proofs.Comparing.{counting_none, counting_equal, counting_other, counting_all}
 use Rattle.search_outcomes.proofs.is_same.Goals as goal
 use Rattle.search_outcomes.proofs.is_same.Goals.{then-area-at, else-area-at}
 

@@ -1,9 +1,7 @@
 -- `search_outcomes::is_same` meets its contract: where all bytes count as equal, each is the key's.
 -- Assumes nothing.
-use mathlib.Core.Logic.{⊎_elim}
 use Prim.Native.Nat.{◌-◌}
-use native.Mathlib.Omega.{arith}
-use Rattle.search_outcomes.proofs.Comparing.{Counting, counting_none, counting_equal, counting_other, counting_all}
+use Rattle.search_outcomes.proofs.Comparing.{Counting}
 use Rattle.search_outcomes.proofs.is_same.Given as goal
 
 abbrev pub invariant-loop-k : goal.invariant-loop-k

@@ -1,8 +1,6 @@
 -- `search_outcomes::is_smaller` meets its contract: the first byte that differs decides.
 -- Assumes nothing.
-use Prim.Native.Nat.{◌-◌}
-use native.Mathlib.Omega.{arith}
-use Rattle.search_outcomes.proofs.Comparing.{Comparing, comparing_none, comparing_more, comparing_ends, comparing_all}
+use Rattle.search_outcomes.proofs.Comparing.{comparing_none, comparing_more, comparing_ends, comparing_all}
 use Rattle.search_outcomes.proofs.is_smaller.Goals as goal
 
 pub loop-k-init : goal.loop-k-init

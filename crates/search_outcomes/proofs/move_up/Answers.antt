@@ -1,7 +1,7 @@
 -- `search_outcomes::move_up` meets its contract: byte after byte, from the last on.
 -- Assumes nothing.
 use native.Mathlib.Omega.{arith}
-use Rattle.search_outcomes.proofs.Writing.{Moving, moving_length, moving_none, moving_more, moving_all}
+use Rattle.search_outcomes.proofs.Writing.{moving_length, moving_none, moving_more, moving_all}
 use Rattle.search_outcomes.proofs.move_up.Goals as goal
 
 pub loop-j-init : goal.loop-j-init

@@ -1,7 +1,6 @@
 -- `search_outcomes::move_up` meets its contract: byte after byte, from the last on.
 -- Assumes nothing.
-use native.Mathlib.Omega.{arith}
-use Rattle.search_outcomes.proofs.Writing.{Moving, moving_length, moving_none, moving_more, moving_all}
+use Rattle.search_outcomes.proofs.Writing.{Moving}
 use Rattle.search_outcomes.proofs.move_up.Given as goal
 
 abbrev pub invariant-loop-j : goal.invariant-loop-j

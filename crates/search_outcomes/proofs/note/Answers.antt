@@ -4,7 +4,6 @@ use mathlib.Core.Path.{ap, ◌∙◌}
 use mathlib.Core.List.{List}
 use Prim.Native.Nat.{ℕ}
 use lib.ListN.{length}
-use borrow.Author.Rules.{rules}
 use Rattle.search_outcomes.specs.Table.{noted}
 use Rattle.search_outcomes.proofs.Ending.{ending_length}
 use Rattle.search_outcomes.proofs.note.Goals as goal

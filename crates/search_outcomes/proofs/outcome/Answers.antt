@@ -1,7 +1,6 @@
 -- `search_outcomes::outcome` meets its contract: the last values, and before them the registers.
 -- Assumes nothing.
 use mathlib.Core.Path.{refl}
-use borrow.Author.Rules.{rules}
 use Rattle.search_outcomes.proofs.Ending.{ending_written}
 use Rattle.search_outcomes.proofs.outcome.Goals as goal
 

@@ -1,12 +1,11 @@
 -- `search_outcomes::put_key` meets its contract: the loop writes 48 bytes.
 -- Assumes nothing.
 use mathlib.Core.Path.{refl, ap, ◌∙◌}
-use mathlib.Core.List.{List, [], ◌∷◌}
-use Prim.Native.Nat.{ℕ, ◌+◌, ◌-◌}
+use mathlib.Core.List.{List}
+use Prim.Native.Nat.{ℕ}
 use native.Mathlib.Omega.{arith}
-use lib.ListN.{get_or}
 use Rattle.encode_bytes.specs.Places.{put}
-use Rattle.encode_bytes.proofs.Putting.{Putting, putting_none, putting_more, putting_all, put_one}
+use Rattle.encode_bytes.proofs.Putting.{putting_none, putting_more, putting_all, put_one}
 use Rattle.search_outcomes.proofs.Writing.{joined_all}
 use Rattle.search_outcomes.proofs.put_key.Goals as goal
 

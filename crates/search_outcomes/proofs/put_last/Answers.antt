@@ -1,11 +1,9 @@
 -- `search_outcomes::put_last` meets its contract: the loop writes one message after the other.
 -- Assumes nothing.
 use mathlib.Core.Path.{refl, ap}
-use Prim.Native.Nat.{◌-◌}
 use native.Mathlib.Omega.{arith}
 use lib.ListN.{length}
-use borrow.Author.Rules.{rules}
-use Rattle.search_outcomes.proofs.LastValues.{Lasting, lasting_none, lasting_length, lasting_more, lasting_all}
+use Rattle.search_outcomes.proofs.LastValues.{lasting_none, lasting_length, lasting_more, lasting_all}
 use Rattle.search_outcomes.proofs.put_last.Goals as goal
 
 pub loop-t-init : goal.loop-t-init

@@ -1,7 +1,6 @@
 -- `search_outcomes::put_row` meets its contract: the outcome, then its place.
 -- Assumes nothing.
 use native.Mathlib.Omega.{arith}
-use borrow.Author.Rules.{rules}
 use Rattle.encode_bytes.proofs.Putting.{put_then}
 use Rattle.search_outcomes.proofs.Rows.{width_least}
 use Rattle.search_outcomes.proofs.put_row.Goals as goal

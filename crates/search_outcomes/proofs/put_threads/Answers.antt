@@ -2,13 +2,11 @@
 -- Assumes nothing.
 use mathlib.Core.Path.{refl}
 use mathlib.Core.List.{[], ◌∷◌}
-use Prim.Native.Nat.{◌-◌, ◌*◌}
 use native.Mathlib.Omega.{arith}
 use lib.ListN.{get_or}
 use Rattle.machine.specs.State.{fresh_register, thread_of}
-use Rattle.encode_bytes.proofs.Putting.{Putting, putting_none, putting_more, putting_all}
+use Rattle.encode_bytes.proofs.Putting.{putting_none, putting_more, putting_all}
 use Rattle.encode_bytes.proofs.Entries.{joined_length}
-use Rattle.search_outcomes.specs.Inner.{values_of}
 use Rattle.search_outcomes.proofs.put_threads.Goals as goal
 
 pub loop-i-init : goal.loop-i-init

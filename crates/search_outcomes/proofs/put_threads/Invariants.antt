@@ -1,13 +1,8 @@
 -- `search_outcomes::put_threads` meets its contract: the loop writes 4 entries of 8 bytes.
 -- Assumes nothing.
-use mathlib.Core.Path.{refl}
-use mathlib.Core.List.{[], ◌∷◌}
 use Prim.Native.Nat.{◌-◌, ◌*◌}
-use native.Mathlib.Omega.{arith}
-use lib.ListN.{get_or}
-use Rattle.machine.specs.State.{fresh_register, thread_of}
-use Rattle.encode_bytes.proofs.Putting.{Putting, putting_none, putting_more, putting_all}
-use Rattle.encode_bytes.proofs.Entries.{joined_length}
+use Rattle.machine.specs.State.{thread_of}
+use Rattle.encode_bytes.proofs.Putting.{Putting}
 use Rattle.search_outcomes.specs.Inner.{values_of}
 use Rattle.search_outcomes.proofs.put_threads.Given as goal
 

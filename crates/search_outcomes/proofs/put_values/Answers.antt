@@ -1,12 +1,8 @@
 -- `search_outcomes::put_values` meets its contract: the loop writes 8 entries of one byte.
 -- Assumes nothing.
 use mathlib.Core.Path.{refl}
-use mathlib.Core.List.{[], ◌∷◌}
-use Prim.Native.Nat.{◌+◌, ◌-◌}
 use native.Mathlib.Omega.{arith}
-use lib.ListN.{get_or}
-use Rattle.machine.specs.State.{fresh_register}
-use Rattle.encode_bytes.proofs.Putting.{Putting, putting_none, putting_more, putting_all, put_one}
+use Rattle.encode_bytes.proofs.Putting.{putting_none, putting_more, putting_all, put_one}
 use Rattle.search_outcomes.proofs.put_values.Goals as goal
 
 pub loop-r-init : goal.loop-r-init

@@ -2,7 +2,7 @@
 -- Assumes nothing.
 use Prim.Native.Nat.{◌+◌, ◌-◌, ◌/◌}
 use native.Mathlib.Omega.{arith}
-use Rattle.search_outcomes.proofs.Halving.{Halving, key_within, halving_none, halving_low, halving_high, halving_all}
+use Rattle.search_outcomes.proofs.Halving.{key_within, halving_none, halving_low, halving_high, halving_all}
 use Rattle.search_outcomes.proofs.smaller_rows.Goals as goal
 
 pub loop-low-init : goal.loop-low-init

@@ -1,8 +1,7 @@
 -- `search_outcomes::smaller_rows` meets its contract: a row that is smaller has all rows before it smaller, and one that is not has none behind it smaller.
 -- Assumes nothing.
-use Prim.Native.Nat.{◌+◌, ◌-◌, ◌/◌}
-use native.Mathlib.Omega.{arith}
-use Rattle.search_outcomes.proofs.Halving.{Halving, key_within, halving_none, halving_low, halving_high, halving_all}
+use Prim.Native.Nat.{◌-◌}
+use Rattle.search_outcomes.proofs.Halving.{Halving}
 use Rattle.search_outcomes.proofs.smaller_rows.Given as goal
 
 abbrev pub invariant-loop-low : goal.invariant-loop-low

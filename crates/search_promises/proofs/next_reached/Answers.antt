@@ -1,7 +1,6 @@
 -- `search_promises::next_reached` meets its contract.
 -- Assumes nothing.
 use borrow.Author.Tests.{le-leb, lt-leb}
-use borrow.Author.Rules.{rules}
 use Rattle.certify_sought.proofs.Numbers.{only_least, two_least, none_met}
 use Rattle.search_promises.proofs.next_reached.Goals as goal
 

@@ -2,7 +2,6 @@
 -- Assumes nothing.
 use Rattle.certify_runs.proofs.Ready.{ready_promised, with_room}
 use Rattle.search_promises.specs.Explored.{hole}
-use borrow.Author.Rules.{rules}
 use Rattle.search_promises.proofs.reached_after.Goals as goal
 
 pub with-requires : goal.with-requires

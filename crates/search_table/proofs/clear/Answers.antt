@@ -1,7 +1,6 @@
 -- `search_table::clear` meets its contract.
 -- Assumes nothing.
 use mathlib.Core.Path.{◌∙◌}
-use borrow.Author.Rules.{rules}
 use Rattle.encode_bytes.proofs.Clearing.{clear_whole}
 use Rattle.search_table.proofs.clear.Goals as goal
 

@@ -1,8 +1,6 @@
 -- `search_table::hash` is safe and ends.
 -- Assumes nothing.
 use Prim.Native.Nat.{◌-◌, ◌≤◌}
-use native.Mathlib.Omega.{arith}
-use borrow.Author.Rules.{rules}
 use Rattle.search_table.proofs.hash.Given as goal
 
 abbrev pub invariant-loop-k : goal.invariant-loop-k

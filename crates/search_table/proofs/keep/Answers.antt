@@ -1,7 +1,6 @@
 -- `search_table::keep` meets its contract: the machine, then the count.
 -- Assumes nothing.
 use native.Mathlib.Omega.{arith}
-use borrow.Author.Rules.{rules}
 use Rattle.encode_bytes.proofs.Putting.{put_then}
 use Rattle.encode_machine.proofs.Lengths.{machine_length}
 use Rattle.search_table.specs.Table.{slot_with}

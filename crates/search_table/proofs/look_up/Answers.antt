@@ -1,7 +1,6 @@
 -- `search_table::look_up` meets its contract: the key is the machine's bytes, and a slot that is the same has its count.
 -- Assumes nothing.
 use mathlib.Core.Path.{refl, sym}
-use borrow.Author.Rules.{rules}
 use Rattle.search_table.specs.Table.{count_at}
 use Rattle.search_table.proofs.Seeking.{within_table, key_there}
 use Rattle.search_table.proofs.look_up.Goals as goal

@@ -1,11 +1,7 @@
 -- `search_table::same` meets its contract: where all bytes count as equal, each is the key's.
 -- Assumes nothing.
-use mathlib.Core.Logic.{⊎_elim}
-use mathlib.Core.Path.{◌≡◌}
 use Prim.Native.Nat.{◌-◌}
-use native.Mathlib.Omega.{arith}
-use borrow.Author.Tests.{eqb-true}
-use Rattle.search_table.proofs.Counting.{Counting, counting_none, counting_equal, counting_other}
+use Rattle.search_table.proofs.Counting.{Counting}
 use Rattle.search_table.proofs.same.Given as goal
 
 abbrev pub invariant-loop-k : goal.invariant-loop-k

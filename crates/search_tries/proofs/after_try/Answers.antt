@@ -1,6 +1,5 @@
 -- `search_tries::after_try` meets its contract.
 -- Assumes nothing.
-use native.Mathlib.Omega.{arith}
 use Rattle.search_tries.proofs.Worth.{foreseen}
 use Rattle.search_tries.proofs.after_try.Goals as goal
 

@@ -1,7 +1,6 @@
 -- `search_tries::attempt` meets its contract.
 -- Assumes nothing.
 use native.Mathlib.Omega.{arith}
-use borrow.Author.Rules.{rules}
 use Rattle.step.proofs.Stepping.{kind_execute}
 use Rattle.search_tries.specs.Worthwhile.{answer_only}
 use Rattle.search_tries.proofs.Worth.{is_promise, promise_kept}

@@ -1,7 +1,6 @@
 -- `search_tries::execute_at` meets its contract.
 -- Assumes nothing.
 use mathlib.Core.Path.{refl}
-use borrow.Author.Rules.{rules}
 use Rattle.machine.proofs.Cases.{ruled_done}
 use Rattle.step.proofs.Stepping.{reach_small, ready_executed, execute_done, execute_refused}
 use Rattle.search_tries.specs.Worthwhile.{answer_only}

@@ -1,6 +1,5 @@
 -- `search_tries::narrowed` meets its contract.
 -- Assumes nothing.
-use borrow.Author.Rules.{rules}
 use Rattle.search_tries.proofs.Beaten.{narrowed_none, narrowed_load}
 use Rattle.search_tries.proofs.narrowed.Goals as goal
 

@@ -1,9 +1,7 @@
 -- `search_tries::next_promises` meets its contract.
 -- Assumes nothing.
 use borrow.Author.Tests.{not-true}
-use mathlib.Core.Path.{refl, sym, ◌∙◌}
 use native.Mathlib.Omega.{arith}
-use Rattle.machine.proofs.Cases.{was_false}
 use Rattle.search_tries.proofs.Worth.{none_promised, next_full, one_explored, two_explored}
 use Rattle.search_tries.proofs.next_promises.Goals as goal
 

@@ -1,7 +1,6 @@
 -- `search_tries::next_time` meets its contract.
 -- Assumes nothing.
 use Rattle.search_tries.proofs.Worth.{at_zero_now, after_zero, after_time}
-use borrow.Author.Rules.{rules}
 use Rattle.search_tries.proofs.next_time.Goals as goal
 
 pub returns-then-t : goal.returns-then-t

@@ -2,7 +2,6 @@
 -- Assumes nothing.
 use Rattle.search_tries.proofs.Worth.{past_times, at_a_time, after_times}
 use native.Mathlib.Omega.{arith}
-use borrow.Author.Rules.{rules}
 use Rattle.search_tries.proofs.next_try.Goals as goal
 
 pub returns-then-from-ge17 : goal.returns-then-from-ge17

@@ -2,7 +2,6 @@
 -- Assumes nothing.
 use mathlib.Core.Path.{refl}
 use native.Mathlib.Omega.{arith}
-use borrow.Author.Rules.{rules}
 use Rattle.machine.proofs.Effects.{effect, effect_time}
 use Rattle.step.proofs.Stepping.{settle_free}
 use Rattle.search_tries.proofs.Beaten.{took_settles, found_settles, lost_settles, narrowed_worth}

@@ -2,7 +2,6 @@
 -- Assumes nothing.
 use Rattle.search_tries.proofs.Worth.{at_time, at_key}
 use mathlib.Core.Path.{◌∙◌}
-use borrow.Author.Rules.{rules}
 use Rattle.search_tries.proofs.step_at.Goals as goal
 
 pub returns-then-k-lt17 : goal.returns-then-k-lt17

@@ -3,7 +3,6 @@
 use native.Mathlib.Omega.{arith}
 use lib.Count.{ones-le}
 use Rattle.search_tries.proofs.Worth.{what_is_worth}
-use borrow.Author.Rules.{rules}
 use Rattle.search_tries.proofs.tries_of.Goals as goal
 
 pub overflow_add-s : goal.overflow_add-s

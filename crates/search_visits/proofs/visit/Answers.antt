@@ -2,7 +2,6 @@
 -- Assumes nothing.
 use mathlib.Core.Path.{refl, ◌∙◌}
 use native.Mathlib.Omega.{arith}
-use borrow.Author.Rules.{rules}
 use Rattle.search_outcomes.proofs.Laws.{formed_placed}
 use Rattle.search_arrivals.proofs.Known.{is_over, is_ending, is_open, stays_true}
 use Rattle.search_visits.proofs.Lent.{ending_noted}

@@ -1,7 +1,6 @@
 -- `step::execute_at` meets its contract.
 -- Assumes nothing.
 use Rattle.step.proofs.Stepping.{reach_small, ready_executed, execute_done, execute_refused}
-use borrow.Author.Rules.{rules}
 use Rattle.step.proofs.execute_at.Goals as goal
 
 pub execute-r-requires : goal.execute-r-requires

@@ -1,7 +1,6 @@
 -- `step::execute_step` meets its contract.
 -- Assumes nothing.
 use Rattle.step.proofs.Stepping.{execute_end}
-use borrow.Author.Rules.{rules}
 use Rattle.step.proofs.execute_step.Goals as goal
 
 pub returns-then-c-n : goal.returns-then-c-n

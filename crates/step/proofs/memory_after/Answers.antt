@@ -1,7 +1,6 @@
 -- `step::memory_after` meets its contract.
 -- Assumes nothing.
 use Rattle.step.proofs.Stepping.{remembers_same, remembers_none, remembers_one}
-use borrow.Author.Rules.{rules}
 use Rattle.step.proofs.memory_after.Goals as goal
 
 pub returns-then-k-eq0 : goal.returns-then-k-eq0

@@ -1,7 +1,6 @@
 -- `step::promise_kept` meets its contract.
 -- Assumes nothing.
 use mathlib.Core.Path.{◌∙◌, ap}
-use borrow.Author.Rules.{rules}
 use Rattle.step.proofs.Stepping.{goes, promise_keeps}
 use Rattle.step.proofs.promise_kept.Goals as goal
 

@@ -3,7 +3,6 @@
 use Rattle.certify_runs.proofs.Ready.{ready_promised}
 use Rattle.step.proofs.Stepping.{promise_23, promise_24, promise_settles}
 use mathlib.Core.Path.{refl}
-use borrow.Author.Rules.{rules}
 use Rattle.step.proofs.promise_step.Goals as goal
 
 pub returns-then-l-gt15 : goal.returns-then-l-gt15

@@ -4,7 +4,6 @@ use Rattle.step.proofs.Stepping.{rule_21, rule_taken, rule_refused, thread_ready
 use Rattle.certify_runs.proofs.Ready.{of_four}
 use Rattle.step.specs.Answers.{stepped}
 use mathlib.Core.Path.{sym, ap, ◌∙◌}
-use borrow.Author.Rules.{rules}
 use Rattle.step.proofs.rule_step.Goals as goal
 
 pub returns-then-p-i : goal.returns-then-p-i

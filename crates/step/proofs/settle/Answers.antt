@@ -1,7 +1,6 @@
 -- `step::settle` meets its contract.
 -- Assumes nothing.
 use Rattle.step.proofs.Stepping.{settle_free, settle_yes, settle_no}
-use borrow.Author.Rules.{rules}
 use Rattle.step.proofs.settle.Goals as goal
 
 pub returns-then-is_empty : goal.returns-then-is_empty

@@ -2,7 +2,6 @@
 -- Assumes nothing.
 use Rattle.step.proofs.Stepping.{kind_execute_22, kind_execute, kind_22, kind_promise}
 use native.Mathlib.Omega.{arith}
-use borrow.Author.Rules.{rules}
 use Rattle.step.proofs.thread_step.Goals as goal
 
 pub returns-then-k-ne0 : goal.returns-then-k-ne0

@@ -1,12 +1,7 @@
 -- `step_ending::all_hold` meets its contract: the loop has come to condition k, and those before it hold.
 -- Assumes nothing.
-use mathlib.Core.Path.{◌≡◌, refl}
 use Prim.Native.Nat.{◌-◌}
-use native.Mathlib.Omega.{arith}
-use lib.ListN.{length}
-use borrow.Author.Rules.{rules}
-use Rattle.program.proofs.Arrays.{length_mapped, get_d_any}
-use Rattle.step_ending.proofs.Asking.{Holding, holding_none, holding_more, holding_all, holding_fails}
+use Rattle.step_ending.proofs.Asking.{Holding}
 use Rattle.step_ending.proofs.all_hold.Given as goal
 
 abbrev pub invariant-loop-k : goal.invariant-loop-k

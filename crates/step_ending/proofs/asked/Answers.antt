@@ -1,7 +1,6 @@
 -- `step_ending::asked` meets its contract: a machine that is not complete decides.
 -- Assumes nothing.
 use mathlib.Core.Path.{sym, ◌∙◌}
-use borrow.Author.Rules.{rules}
 use Rattle.step.specs.Outcome.{asked}
 use Rattle.step_ending.proofs.asked.Goals as goal
 

@@ -1,6 +1,5 @@
 -- `step_ending::holds` meets its contract: by the kind.
 -- Assumes nothing.
-use borrow.Author.Rules.{rules}
 use Rattle.step_ending.proofs.Asking.{holds_register, holds_last}
 use Rattle.step_ending.proofs.holds.Goals as goal
 

@@ -1,7 +1,6 @@
 -- `step_ending::last_value` meets its contract: no message after time t is at l.
 -- Assumes nothing.
-use native.Mathlib.Omega.{arith}
-use Rattle.step_ending.proofs.Asking.{Older, older_all, older_hit, older_more, older_none}
+use Rattle.step_ending.proofs.Asking.{Older}
 use Rattle.step_ending.proofs.last_value.Given as goal
 
 abbrev pub invariant-loop-t : goal.invariant-loop-t

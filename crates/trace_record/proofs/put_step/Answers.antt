@@ -3,7 +3,6 @@
 use native.Mathlib.Numerals.{add-one, add-two, add-three, add-four, add_five}
 use native.Mathlib.Omega.{arith}
 use lib.ListN.{length-set}
-use borrow.Author.Rules.{rules}
 use Rattle.encode_bytes.proofs.Putting.{put_run}
 use Rattle.trace_record.specs.Trace.{step_bytes}
 use Rattle.trace_record.proofs.put_step.Goals as goal

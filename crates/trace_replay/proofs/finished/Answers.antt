@@ -1,6 +1,5 @@
 -- `trace_replay::finished` meets its contract.
 -- Assumes nothing.
-use borrow.Author.Rules.{rules}
 use Rattle.trace_replay.proofs.finished.Goals as goal
 
 pub returns : goal.returns

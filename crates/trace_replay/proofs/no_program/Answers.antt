@@ -1,6 +1,5 @@
 -- `trace_replay::no_program` meets its contract.
 -- Assumes nothing.
-use borrow.Author.Rules.{rules}
 use Rattle.trace_replay.proofs.no_program.Goals as goal
 
 pub returns : goal.returns

@@ -1,6 +1,5 @@
 -- `trace_replay::replay` meets its contract: the program file's answer first.
 -- Assumes nothing.
-use borrow.Author.Rules.{rules}
 use Rattle.trace_replay.proofs.Files.{good_formed, read_refused, good_replay, refused_replay}
 use Rattle.trace_replay.proofs.replay.Goals as goal
 

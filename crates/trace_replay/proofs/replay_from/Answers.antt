@@ -1,12 +1,9 @@
 -- `trace_replay::replay_from` meets its contract: the replay of the whole is that of the rest.
 -- Assumes nothing.
-use mathlib.Core.Path.{refl, sym, ap, ◌∙◌}
-use Prim.Native.Nat.{◌-◌}
+use mathlib.Core.Path.{sym, ap, ◌∙◌}
 use native.Mathlib.Omega.{arith}
-use borrow.Author.Rules.{rules}
-use borrow.Author.Tests.{not-true, not-false}
 use Rattle.trace_replay.specs.Answers.{replayed}
-use Rattle.trace_replay.proofs.Records.{Replaying, begins, at_end_lem, cut, full, unmarked, step_refused, step_taken}
+use Rattle.trace_replay.proofs.Records.{begins, at_end_lem, cut, full, unmarked, step_refused, step_taken}
 use Rattle.trace_replay.proofs.replay_from.Goals as goal
 
 pub loop-n-init : goal.loop-n-init

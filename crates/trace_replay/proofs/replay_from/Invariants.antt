@@ -1,12 +1,7 @@
 -- `trace_replay::replay_from` meets its contract: the replay of the whole is that of the rest.
 -- Assumes nothing.
-use mathlib.Core.Path.{refl, sym, ap, ◌∙◌}
 use Prim.Native.Nat.{◌-◌}
-use native.Mathlib.Omega.{arith}
-use borrow.Author.Rules.{rules}
-use borrow.Author.Tests.{not-true, not-false}
-use Rattle.trace_replay.specs.Answers.{replayed}
-use Rattle.trace_replay.proofs.Records.{Replaying, begins, at_end_lem, cut, full, unmarked, step_refused, step_taken}
+use Rattle.trace_replay.proofs.Records.{Replaying}
 use Rattle.trace_replay.proofs.replay_from.Given as goal
 
 abbrev pub invariant-loop-n : goal.invariant-loop-n

@@ -1,6 +1,5 @@
 -- `trace_replay::stopped` meets its contract.
 -- Assumes nothing.
-use borrow.Author.Rules.{rules}
 use Rattle.trace_replay.proofs.stopped.Goals as goal
 
 pub returns : goal.returns

@@ -3,7 +3,6 @@
 use lib.ListN.{length}
 use native.Mathlib.Omega.{arith}
 use mathlib.Core.Path.{◌≡◌}
-use borrow.Author.Rules.{rules}
 use Rattle.program.proofs.Arrays.{length_mapped}
 use Rattle.search_tries.proofs.Open.{next_of_four, asks_read}
 use Rattle.search_tries.proofs.threads.next_open.Goals as goal

@@ -1,7 +1,6 @@
 -- `step::checked::step` meets its contract: well formed or not.
 -- Assumes nothing.
 use mathlib.Core.Path.{◌∙◌, ap, sym}
-use borrow.Author.Rules.{rules}
 use Rattle.certify_runs.proofs.Ready.{formed}
 use Rattle.step.specs.Answers.{stepped}
 use Rattle.step.proofs.Stepping.{step_20, step_formed}
