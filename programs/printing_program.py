@@ -16,9 +16,14 @@ from command import NotDone
 
 ROOT = pathlib.Path(__file__).resolve().parent.parent
 PROGRAM = ROOT / "target" / "bin" / "judge"
-# When the program was last found to be that of the sources: rt does not link again what has not changed.
-CURRENT = ROOT / "target" / "judge-is-current"
 LOG = ROOT / "target" / "judge-build.log"
+# Has rt prove and link the program, and run it, once, on nothing; then puts it in its place, as a whole. Its time is that at which the
+# build began: a source that was changed meanwhile is newer.
+BUILD = """
+cd crates/judge && rt run -- 0 < /dev/null || exit
+mkdir -p ../../target/bin && cp out/judge ../../target/bin/judge.new && touch -d "@$1" ../../target/bin/judge.new &&
+mv ../../target/bin/judge.new ../../target/bin/judge
+"""
 # The table of known machines, 4 MiB, stands on the stack.
 STACK = 8 << 20
 # Of the C library's prctl: the signal that a process gets when the one that started it ends.
@@ -33,7 +38,7 @@ def rooms():
     """The crates that the program is made of, by crates.txt."""
     uses = {}
     for line in (ROOT / "crates.txt").read_text().splitlines():
-        if found := re.match(r"(\w+):(.*)", line):
+        if found := re.match(r"(\w+)(?: [\w= +]+)?:(.*)", line):
             uses[found[1]] = found[2].split()
     needed, new = set(), {"judge"}
     while new:
@@ -46,7 +51,7 @@ def is_current():
     """Whether no source has changed since the program was built."""
     if not PROGRAM.exists():
         return False
-    built = max(path.stat().st_mtime for path in (PROGRAM, CURRENT) if path.exists())
+    built = PROGRAM.stat().st_mtime
     folders = [ROOT / "crates" / room / part for room in rooms() for part in ("src", "specs", "proofs")]
     # A folder is newer than a file that was taken out of it.
     sources = [path for folder in folders if folder.exists() for path in (folder, *folder.rglob("*"))]
@@ -59,17 +64,18 @@ def build(lock):
     if not shutil.which("rt"):
         raise NotDone("rt, the command of the Rattle kit, is not in PATH: it is needed to prove and build the judge")
     say(f"proving and building the judge from its sources, some minutes the first time; the log is {LOG}")
+    words = ["sh", "-c", BUILD, "sh", str(time.time())]
     with LOG.open("w") as log:
-        rt = subprocess.Popen(["rt", "check", "judge"], cwd=ROOT, stdout=log, stderr=log, pass_fds=[lock.fileno()])
+        rt = subprocess.Popen(words, cwd=ROOT, stdout=log, stderr=log, pass_fds=[lock.fileno()])
     total, shown, status = len(rooms()), 0, None
     while status is None:
         time.sleep(0.2)
         status = rt.poll()
-        proved = len(re.findall(r"^rt: \w+ proved", LOG.read_text(errors="replace"), re.MULTILINE))
-        shown = show_progress(shown, proved, total)
+        # rt is silent of a crate that it has proved before.
+        proved = total if status == 0 else len(re.findall(r"^logic=proved ", LOG.read_text(errors="replace"), re.MULTILINE))
+        shown = show_progress(shown, min(proved, total), total)
     if status:
         raise NotDone(f"the judge could not be proved and built: rt ended with {status}; read {LOG}")
-    CURRENT.touch()
 
 
 def show_progress(shown, proved, total):
@@ -101,16 +107,15 @@ def make_current():
 
 
 def command():
-    """How it is started: it is for x86-64, and for other processors the kit has an emulator."""
+    """How it is started: it is for x86-64; on other processors an emulator runs it."""
     machine = os.uname().machine
     if machine == "x86_64":
         return [PROGRAM]
-    rt = shutil.which("rt")
-    if not rt:
-        raise NotDone(f"rt, the command of the Rattle kit, is not in PATH: on {machine} the judge runs in the kit's "
-                      "emulator")
-    kit = pathlib.Path(rt).resolve().parent.parent / "on" / machine / "toolchain"
-    return [kit / "bin" / "qemu-x86_64", kit / "lib" / "ld-linux-x86-64.so.2", "--library-path", kit / "lib", PROGRAM]
+    emulator = shutil.which("qemu-x86_64")
+    if not emulator:
+        raise NotDone(f"the judge is for x86-64, and on {machine} the emulator qemu-x86_64 is not in PATH: "
+                      "./on-x86-64 --packages prints the Debian package that has it")
+    return [emulator, PROGRAM]
 
 
 def before_start(command):

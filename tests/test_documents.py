@@ -108,7 +108,7 @@ class Stack(CommandTest):
         self.holds((OK, "", ""), ROOT / "tools" / "frames", "--check")
 
     def test_no_archive(self):
-        self.holds((2, "", "frames: nowhere is not there: build it with rt staticlib capi\n"), ROOT / "tools" / "frames", "nowhere")
+        self.holds((2, "", "frames: nowhere is not there: build it with ./library\n"), ROOT / "tools" / "frames", "nowhere")
 
 
 class Paths(unittest.TestCase):

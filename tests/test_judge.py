@@ -187,14 +187,14 @@ class Ended(CommandTest):
 # Stands for rt: says what rt says of each crate, and puts the real program where rt would link it.
 SOME = 15
 RT = """#!/bin/sh
-[ "$*" = "check judge" ] || exit 2
-echo run >> rt-runs
+[ "$*" = "run -- 0" ] && [ "$(basename "$PWD")" = judge ] || exit 2
+echo run >> ../../rt-runs
 [ -z "$RT_FAILS" ] || {{ echo "rt: program: something is not proved"; exit 1; }}
-for crate in {some}; do echo "rt: $crate proved (1 s)"; done
+for crate in {some}; do echo "logic=proved functions=1 $crate"; done
 [ -z "$RT_SLEEPS" ] || sleep 2
-for crate in {others}; do echo "rt: $crate proved (1 s)"; done
-mkdir -p target/bin
-cp {program} target/bin/judge
+for crate in {others}; do echo "logic=proved functions=1 $crate"; done
+mkdir -p out
+cp {program} out/judge
 """
 
 
@@ -235,7 +235,7 @@ class Built(CommandTest):
 
     def test_the_first_build_says_what_it_does_and_how_far_it_is(self):
         self.assertEqual(self.judged(RT_SLEEPS="yes"), (ALLOWED, RUN.encode(), self.said(SOME)))
-        self.assertEqual(self.log.read_text().count("proved (1 s)"), len(self.crates))
+        self.assertEqual(self.log.read_text().count("logic=proved"), len(self.crates))
 
     def test_what_is_current_is_not_built_again(self):
         self.judged()

@@ -1,4 +1,4 @@
-//! Links the archive that `rt staticlib capi` writes at the repository's root.
+//! Links the archive that `./library` at the repository's root proves and writes.
 
 use std::path::Path;
 
@@ -7,7 +7,7 @@ fn main() {
     let archive = folder.join("libcapi.a");
     println!("cargo::rerun-if-changed={}", archive.display());
     if !archive.exists() {
-        println!("cargo::error={} is not there: run `rt staticlib capi` first", archive.display());
+        println!("cargo::error={} is not there: run `./library` at the repository's root first", archive.display());
         return;
     }
     println!("cargo::rustc-link-search=native={}", folder.display());

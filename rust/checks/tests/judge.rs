@@ -1,5 +1,5 @@
-//! The printing program, `target/bin/judge`, which `rt check judge` proves and links: what it prints for an
-//! input and arguments.
+//! The printing program, `target/bin/judge`, which `./judge` at the repository's root has proved and linked: what it
+//! prints for an input and arguments.
 
 use std::io::Write;
 use std::process::{Command, Stdio};
@@ -34,7 +34,7 @@ fn judged(input: &[u8], arguments: &[&str]) -> (String, String) {
         .stdout(Stdio::piped())
         .stderr(Stdio::piped())
         .spawn()
-        .unwrap_or_else(|why| panic!("{JUDGE}: {why}; `rt check judge` links it"));
+        .unwrap_or_else(|why| panic!("{JUDGE}: {why}; `./judge FILE` at the repository's root builds it"));
     // The program reads 4,096 bytes at most, and none where an argument is bad: the rest of the input meets a closed pipe.
     let _ = program.stdin.take().expect("a pipe").write_all(input);
     let wrote = program.wait_with_output().expect("the program ends");
