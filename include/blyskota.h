@@ -1,5 +1,5 @@
 /*
- * Blyskota: a judge of Armv8 litmus programs. C interface of libcapi.a (rt staticlib capi).
+ * Blyskota: a judge of Armv8 litmus programs. C interface of libcapi.a, which ./library proves and writes.
  *
  * Every call takes byte slices, each as a pointer and a length, and writes its answer into an area that the caller lends. It returns
  *

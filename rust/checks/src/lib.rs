@@ -1,5 +1,5 @@
 //! Two sides answer the same calls, and every byte is compared: the library, whose calls are proved,
-//! and the twin, which was written from the buyer's scope paper without a look at the proved code.
+//! and the twin, which was written from a description in words without a look at the proved code.
 
 pub mod batches;
 pub mod listings;

@@ -1,4 +1,4 @@
-//! The rules in Rust, written from the buyer's scope paper alone, which is not in this repository, and
+//! The rules in Rust, written from a description in words alone, which is not in this repository, and
 //! without a look at the proved code. The two share no line and no idea, so where they agree byte for
 //! byte, a mistake would have to be made twice.
 //!

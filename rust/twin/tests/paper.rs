@@ -1,4 +1,4 @@
-//! Answers that the buyer's scope paper gives outright: ten small programs, P1 to P10, and an example
+//! Answers that the description in words gives outright: ten small programs, P1 to P10, and an example
 //! with its trace; litmus tests of known verdicts; and the places of refusals.
 
 use twin::literal;
