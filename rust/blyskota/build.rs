@@ -7,7 +7,7 @@ fn main() {
     let archive = folder.join("libcapi.a");
     println!("cargo::rerun-if-changed={}", archive.display());
     if !archive.exists() {
-        println!("cargo::error={} is not there: run `./library` at the repository's root first", archive.display());
+        println!("cargo::error={} is not there: run `./library` first", archive.display());
         return;
     }
     println!("cargo::rustc-link-search=native={}", folder.display());
