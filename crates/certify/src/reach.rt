@@ -268,6 +268,7 @@ fn keeps(c: Code, i: u8, m: Memory, s: Thread, x: Instr, t: u8) -> Reached
 // the coherence views of before, so that the try tells of other locations too.
 // Whether that is all is asked here already: most certifications end with the store, and a call copies its arguments.
 #[cycle(both_ways_filled_keeps_own_reached_search_at_search_runs_try_at_walk_on)]
+#[inline(always)]
 fn try_at(c: Code, i: u8, m: Memory, s: Thread, x: Instr, t: u8, p: Tried, q: Sought) -> Tried
     requires { Trying c m s x × ((t ≤ 16) × Knows c i m s x q p) }
     ensures tried_at { TriedAt c i m s x q p t result }
@@ -299,6 +300,7 @@ fn try_at(c: Code, i: u8, m: Memory, s: Thread, x: Instr, t: u8, p: Tried, q: So
 // A store that was not promised before appends a message and fulfils that, and the thread goes on from there. Where no load is left to read the message, its
 // value does not count.
 #[cycle(both_ways_filled_keeps_own_reached_search_at_search_runs_try_at_walk_on)]
+#[inline(always)]
 fn own_reached(
     c: Code,
     i: u8,

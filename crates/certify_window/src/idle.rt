@@ -10,6 +10,7 @@ use rules::operands::{address_of_sum, value_of};
 
 // The thread y, which x at time t has brought from s, is idle at the location of x: no message is to it, and coherence there is so low that it
 // hinders neither a store with a message of its own nor one that fills the hole.
+#[inline(never)]
 pub fn idle(x: Instr, m: Memory, s: Thread, t: u8, y: Thread, hole: u8) -> bool
     requires { m.count ≤ 16 }
     ensures { result ≡ true → Idles x m s t y hole }
@@ -50,6 +51,7 @@ pub fn lowered(mut y: Thread, s: Thread) -> Thread
 }
 
 // The thread to go on from: y, or, if it is idle, y with the coherence views of s.
+#[inline(never)]
 pub fn resumed(apart: bool, y: Thread, s: Thread) -> Thread
     ensures { (apart ≡ true → result ≡ cohering y s.coherence) × (apart ≡ false → result ≡ y) }
 {

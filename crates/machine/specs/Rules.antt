@@ -32,21 +32,6 @@ view_of s (OfRegister r) = (get_or s.registers r fresh_register).view
 abbrev pub view_of₂ : Thread → Operand → Operand → ℕ
 view_of₂ s a b = max (view_of s a) (view_of s b)
 
--- the address of a load: the sum of both operands, a byte, so it wraps at 256; that of a store is the value of its operand
-abbrev pub sum_of : Thread → Operand → Operand → ℕ
-sum_of s a b = (value_of s a + value_of s b) % 256
-
--- an address below 16 is a location; one of 16 or more is none: the instruction strays
-abbrev pub is_location : ℕ → Bool
-is_location l = ltb l 16
-
-unfoldable pub strays : Instr → Thread → Bool
-strays (Compute k r a b) s = false
-strays (Load k r a b) s = not (is_location (sum_of s a b))
-strays (Store k a d) s = not (is_location (value_of s a))
-strays (Branch n a b) s = false
-strays (Fence k) s = false
-
 -- one of the 16 locations: the address modulo 16
 abbrev pub address : ℕ → ℕ
 address n = n % 16

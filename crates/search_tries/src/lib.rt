@@ -256,6 +256,7 @@ fn execute_at(t: Attempts, x: Instr, c: Code, i: u8, m: Memory, s: Thread, time:
 
 // The step of a thread with the next instruction x; t is worth a try before it. A step that has a number is of one of the two kinds. That a
 // promise can be kept is known from the exploration: it is not certified once more.
+#[inline(never)]
 pub fn attempt(t: Attempts, x: Instr, c: Code, m: Memory, s: Thread, k: TraceStep) -> Attempted
     requires { Ready c m s × (instr_at c s.position ≡ some x) × Numbered k × Sound m s × Keepable c m s k × Worth c m s t }
     ensures { Moves c m s k (answer_only result) × Worth c m s result.left }
