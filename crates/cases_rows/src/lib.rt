@@ -5,7 +5,7 @@ pub mod file;
 pub mod row;
 pub mod show;
 
-ghost use Rattle.std.specs.Prelude.{◌<◌, ◌≤◌, length, IfOk};
+ghost use Rattle.std.specs.Prelude.{◌≡◌, ◌<◌, ◌≤◌, length, IfOk};
 
 use std::io;
 use text::{read_full, text};
@@ -57,9 +57,11 @@ pub fn unread(rt: &impl Print, name: &[u8]) -> io::Result<()> {
     text(rt, b" cannot be read\n")
 }
 
-// Standard input up to its end. A buffer that it fills may have cut it off.
+// Standard input up to its end. A buffer that it fills may have cut it off. An error is that of a read, or of the line that says so; the buffer
+// then has some of the input.
 pub fn input(rt: &(impl Input + Print), buffer: &mut [u8]) -> io::Result<usize>
-    ensures { IfOk result (λ n. n ≤ length buffer.new) }
+    ensures bound { IfOk result (λ n. n ≤ length buffer.new) }
+    ensures lent { length buffer.new ≡ length buffer.old }
 {
     let n = read_full(&mut rt.reader(), buffer)?;
     if n == buffer.len() {

@@ -3,7 +3,7 @@
 
 mod answers;
 
-ghost use Rattle.std.specs.Prelude.{◌*◌, ◌≤◌, length, IfOk, IfSome};
+ghost use Rattle.std.specs.Prelude.{◌≡◌, ◌*◌, ◌≤◌, length, IfOk, IfSome, OnErr};
 ghost use Rattle.search.specs.Answers.{Searched};
 
 use answers::answer;
@@ -21,6 +21,7 @@ fn complain(rt: &impl Eprint, what: &str) -> io::Result<()> {
 // The answer to the whole input, of which it reads at most 4,096 bytes: a longer one has the answer of those (`long_answer`,
 // proofs/Long.antt).
 fn judged<R: Read>(input: &mut R, budget: u64, area: &mut [u8; 480]) -> io::Result<Answer>
+    ensures stays { OnErr result (area.new ≡ area.old) }
     ensures trace { IfOk result (λ a. 6 * a.steps ≤ length area.new) }
     ensures whole { IfOk result (λ a. IfSome (R.remaining input.old) (λ file. Searched file budget area.old a area.new)) }
 {

@@ -1,7 +1,7 @@
 // Text, bytes and numbers printed on standard output, and standard input read.
 #![tactic(auto)]
 
-ghost use Rattle.std.specs.Prelude.{◌<◌, ◌≤◌, length, take, IfOk};
+ghost use Rattle.std.specs.Prelude.{◌≡◌, ◌<◌, ◌≤◌, length, take, IfOk};
 ghost use Rattle.std.specs.Io.KnownBytes.{Consumes, IsAtEnd};
 
 use std::io;
@@ -29,6 +29,7 @@ pub fn number(rt: &impl Print, label: u8, v: u8) -> io::Result<()> {
 // Reads until the buffer is full or the input ends, and returns how many bytes it put at the start of the buffer. A read that fails
 // ends it, and the bytes before it are lost.
 pub fn read_full<R: Read>(input: &mut R, buffer: &mut [u8]) -> io::Result<usize>
+    ensures lent { length buffer.new ≡ length buffer.old }
     ensures bound { IfOk result (λ n. n ≤ length buffer.new) }
     ensures bytes { IfOk result (λ n. Consumes (R.remaining input.old) (R.remaining input.new) (take n buffer.new)) }
     ensures end { IfOk result (λ n. n < length buffer.new → IsAtEnd (R.remaining input.new)) }
