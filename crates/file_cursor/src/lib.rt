@@ -3,23 +3,16 @@
 
 ghost use Rattle.std.specs.Prelude.{◌≡◌, ◌≤◌, ◌<◌, length};
 ghost use Rattle.program.specs.Program.{no_instruction, no_code, no_program};
-ghost use Rattle.program.specs.File.{Reading, stopped, reading, marked};
-ghost use Rattle.program.specs.Inner.{unless};
-ghost use Rattle.file_cursor.specs.Cursors.{cursor_of};
+ghost use Rattle.program.specs.File.{Reading, marked};
+ghost use Rattle.program.specs.Inner.{after};
 
-use program::{Code, Condition, Instruction, Program};
+use program::{Code, Condition, Instruction, Program, Refusal, Refused};
 
-// How far the reading has come: the place of the next record and the stores read so far; or a refusal's number and place.
-#[derive(Clone, Copy)]
-pub enum Progress {
-    Going(usize, u8),
-    Stopped(u8, usize),
-}
-
-// The reading between two records, with the program so far. A stopped one has the program of all 0.
+// How far the reading has come between two records: the place of the next one, the stores read so far, the program so far.
 #[derive(Clone, Copy)]
 pub struct Cursor {
-    pub progress: Progress,
+    pub at: usize,
+    pub stores: u8,
     pub program: Program,
 }
 
@@ -42,10 +35,9 @@ fn no_code() -> Code
     ensures { result ≡ no_code }
 {
     let x = no_instruction();
-    let xs = [x; 16];
     Code {
         count: 0,
-        instructions: xs,
+        instructions: [x; 16],
     }
 }
 
@@ -70,38 +62,18 @@ pub fn no_program() -> Program
     }
 }
 
-// ---- a cursor
-pub fn stop(number: u8, place: usize) -> Cursor
-    ensures { result ≡ cursor_of (stopped number place) }
-{
-    let g = Progress::Stopped(number, place);
-    let p = no_program();
-    Cursor {
-        progress: g,
-        program: p,
-    }
-}
-
-pub fn go_on(at: usize, s: u8, p: Program) -> Cursor
-    ensures { result ≡ cursor_of (reading at s p) }
-{
-    let g = Progress::Going(at, s);
-    Cursor {
-        progress: g,
-        program: p,
-    }
-}
-
-// What is wrong at the start of a record with n body bytes: 1 where it is not all there, 2 where it has another mark, else 0.
-pub fn fault(file: &[u8], at: usize, first: u8, second: u8, n: usize) -> u8
+// ---- a record's start
+// The record at a place is all there, with n body bytes, and has its mark.
+pub fn marked(file: &[u8], at: usize, first: u8, second: u8, n: usize) -> Result<(), Refused>
     requires { (at ≤ length file.now) × (n < 8) }
-    ensures { (on : Reading) → marked file.now at first second n on ≡ unless result at on }
+    ensures { (on : Reading) → marked file.now at first second n on ≡ after result on }
 {
     if file.len() - at < 2 + n {
-        return 1;
+        return Err(Refusal::InputEnds.at(at));
     }
-    if file[at] != first {
-        return 2;
+    if (file[at] == first) & (file[at + 1] == second) {
+        Ok(())
+    } else {
+        Err(Refusal::OtherMark.at(at))
     }
-    if file[at + 1] == second { 0 } else { 2 }
 }

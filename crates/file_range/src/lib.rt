@@ -59,30 +59,34 @@ fn number_ok(op: u8, k: u8, n: u8) -> bool
     if k == 0 { true } else { n <= 7 }
 }
 
-// The index of the first byte that is out of range at place k of n instructions, 7 where there is none.
-pub fn instruction_fault(n: u8, k: usize, x: Instruction) -> usize
+// The index of the first byte that is out of range at place k of n instructions, if one is.
+pub fn instruction_fault(n: u8, k: usize, x: Instruction) -> Option<usize>
     requires { k < 16 }
     ensures { result ≡ first_failing (instruction_tests n k x) }
 {
     if 4 < x.op {
-        return 0;
+        return Some(0);
     }
     if !mode_ok(n, k, x.op, x.m) {
-        return 1;
+        return Some(1);
     }
     if !register_ok(x.op, x.r) {
-        return 2;
+        return Some(2);
     }
     if !kind_ok(x.op, x.k1) {
-        return 3;
+        return Some(3);
     }
     if !number_ok(x.op, x.k1, x.n1) {
-        return 4;
+        return Some(4);
     }
     if !kind_ok(x.op, x.k2) {
-        return 5;
+        return Some(5);
     }
-    if number_ok(x.op, x.k2, x.n2) { 7 } else { 6 }
+    if number_ok(x.op, x.k2, x.n2) {
+        None
+    } else {
+        Some(6)
+    }
 }
 
 // A register is asked of a thread that there is, a location of thread 0.
@@ -103,15 +107,19 @@ fn index_limit(kind: u8) -> u8
     if kind == 0 { 7 } else { 15 }
 }
 
-// The index of the first byte of a condition that is out of range, 3 where there is none.
-pub fn condition_fault(threads: u8, x: Condition) -> usize
+// The index of the first byte of a condition that is out of range, if one is.
+pub fn condition_fault(threads: u8, x: Condition) -> Option<usize>
     ensures { result ≡ first_failing (condition_tests threads x) }
 {
     if 1 < x.kind {
-        return 0;
+        return Some(0);
     }
     if !thread_ok(threads, x.kind, x.thread) {
-        return 1;
+        return Some(1);
     }
-    if index_limit(x.kind) < x.index { 2 } else { 3 }
+    if index_limit(x.kind) < x.index {
+        Some(2)
+    } else {
+        None
+    }
 }

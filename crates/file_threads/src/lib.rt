@@ -3,12 +3,12 @@
 
 ghost use Rattle.std.specs.Prelude.{◌≡◌, ◌+◌, ◌≤◌, ◌<◌, length};
 ghost use Rattle.program.specs.Program.{code_of};
-ghost use Rattle.program.specs.File.{reading, instruction_of, with_code, with_instruction, read_each, read_instruction, read_thread};
-ghost use Rattle.file_cursor.specs.Cursors.{cursor_of, Inside};
+ghost use Rattle.program.specs.File.{instruction_of, with_code, with_instruction, read_each, read_instruction, read_thread, read_body};
+ghost use Rattle.file_cursor.specs.Cursors.{cursor_of, reading_of, Standing};
 
-use file_cursor::{Cursor, Progress, fault, go_on, stop};
+use file_cursor::{Cursor, marked};
 use file_range::instruction_fault;
-use program::{Code, Instruction, Program};
+use program::{Code, Instruction, Program, Refusal, Refused};
 
 // ---- an instruction record
 fn instruction_at(file: &[u8], at: usize) -> Instruction
@@ -50,40 +50,37 @@ fn with_instruction(p: Program, i: usize, k: usize, x: Instruction) -> Program
     with_code(p, i, c)
 }
 
-fn read_instruction(file: &[u8], i: usize, k: usize, at: usize, s: u8, p: Program) -> Cursor
-    requires { ((i < 4) × (k < 16)) × Inside file.now at s p }
-    ensures { result ≡ cursor_of (read_instruction file.now i k at s p) }
+fn read_instruction(file: &[u8], i: usize, k: usize, c: Cursor) -> Result<Cursor, Refused>
+    requires { ((i < 4) × (k < 16)) × Standing file.now c }
+    ensures { result ≡ cursor_of (read_instruction file.now i k c.at c.stores c.program) }
 {
-    let wrong = fault(file, at, 0x49, 0x4E, 7);
-    if 0 < wrong {
-        return stop(wrong, at);
-    }
+    let at = c.at;
+    marked(file, at, b'I', b'N', 7)?;
     let x = instruction_at(file, at);
-    let c = code_of(p, i);
-    let bad = instruction_fault(c.count, k, x);
-    if bad < 7 {
-        return stop(6, at + 2 + bad);
+    let n = code_of(c.program, i).count;
+    if let Some(bad) = instruction_fault(n, k, x) {
+        return Err(Refusal::InstructionByte.at(at + 2 + bad));
     }
-    let t = s + x.one_store();
-    if 16 < t {
-        return stop(7, at + 2);
+    let stores = c.stores + x.one_store();
+    if 16 < stores {
+        return Err(Refusal::StoreCount.at(at + 2));
     }
-    go_on(at + 9, t, with_instruction(p, i, k, x))
+    Ok(Cursor {
+        at: at + 9,
+        stores,
+        program: with_instruction(c.program, i, k, x),
+    })
 }
 
-fn read_instructions(file: &[u8], i: usize, n: usize, at: usize, s: u8, p: Program) -> Cursor
-    requires { ((i < 4) × (n ≤ 16)) × Inside file.now at s p }
-    ensures { result ≡ cursor_of (read_each (read_instruction file.now i) n 0 (reading at s p)) }
+fn read_instructions(file: &[u8], i: usize, n: usize, start: Cursor) -> Result<Cursor, Refused>
+    requires { ((i < 4) × (n ≤ 16)) × Standing file.now start }
+    ensures { result ≡ cursor_of (read_each (read_instruction file.now i) n 0 (reading_of start)) }
 {
-    let mut c = go_on(at, s, p);
+    let mut c = start;
     for k in 0..n {
-        let g = c.progress;
-        let Progress::Going(a, t) = g else {
-            return c;
-        };
-        c = read_instruction(file, i, k, a, t, c.program);
+        c = read_instruction(file, i, k, c)?;
     }
-    c
+    Ok(c)
 }
 
 // ---- a thread record
@@ -96,36 +93,35 @@ fn with_count(p: Program, i: usize, n: u8) -> Program
     with_code(p, i, c)
 }
 
-fn read_thread(file: &[u8], i: usize, at: usize, s: u8, p: Program) -> Cursor
-    requires { (i < 4) × Inside file.now at s p }
-    ensures { result ≡ cursor_of (read_thread file.now i at s p) }
+fn read_thread(file: &[u8], i: usize, c: Cursor) -> Result<Cursor, Refused>
+    requires { (i < 4) × Standing file.now c }
+    ensures { result ≡ cursor_of (read_thread file.now i c.at c.stores c.program) }
 {
-    let wrong = fault(file, at, 0x54, 0x48, 2);
-    if 0 < wrong {
-        return stop(wrong, at);
+    let at = c.at;
+    marked(file, at, b'T', b'H', 2)?;
+    if file[at + 2] as usize != i {
+        return Err(Refusal::ThreadNumber.at(at + 2));
     }
-    let number = file[at + 2] as usize;
     let n = file[at + 3];
-    if number != i {
-        return stop(10, at + 2);
-    }
     if 16 < n {
-        return stop(5, at + 3);
+        return Err(Refusal::InstructionCount.at(at + 3));
     }
-    read_instructions(file, i, n as usize, at + 4, s, with_count(p, i, n))
+    let start = Cursor {
+        at: at + 4,
+        stores: c.stores,
+        program: with_count(c.program, i, n),
+    };
+    read_instructions(file, i, n as usize, start)
 }
 
-pub fn read_threads(file: &[u8], n: usize, at: usize, s: u8, p: Program) -> Cursor
-    requires { (n ≤ 4) × Inside file.now at s p }
-    ensures { result ≡ cursor_of (read_each (read_thread file.now) n 0 (reading at s p)) }
+// The threads of the program, whose header is read.
+pub fn read_threads(file: &[u8], start: Cursor) -> Result<Cursor, Refused>
+    requires { Standing file.now start }
+    ensures { result ≡ cursor_of (read_body file.now (reading_of start)) }
 {
-    let mut c = go_on(at, s, p);
-    for i in 0..n {
-        let g = c.progress;
-        let Progress::Going(a, t) = g else {
-            return c;
-        };
-        c = read_thread(file, i, a, t, c.program);
+    let mut c = start;
+    for i in 0..start.program.threads as usize {
+        c = read_thread(file, i, c)?;
     }
-    c
+    Ok(c)
 }

@@ -52,16 +52,16 @@ module _ (f g : List ℕ) where
   one_same i k at s p h =
       marked_same at 0x49 0x4E 7 _ _ (omega arith)
       (ap (λ (x : Instruction).
-      in_range (instruction_tests (code_of p i).count k x) 6 (at + 2)
-      (demand (leb (s + one_store x) 16) 7 (at + 2)
+      in_range (instruction_tests (code_of p i).count k x) InstructionByte (at + 2)
+      (demand (leb (s + one_store x) 16) StoreCount (at + 2)
       (reading (at + 9) (s + one_store x) (with_instruction i k x p)))) (instruction_same at h))
 
   one_upto : (n i k at s : ℕ) (p : Program) → at + 9 ≤ n → IfReading (Upto n) (read_instruction f i k at s p)
   unfolding read_instruction
   one_upto n i k at s p h =
       past_mark (Upto n) f at 0x49 0x4E 7 _
-      (λ l. past_range (Upto n) _ 6 (at + 2) _
-      (λ q. past_demand (Upto n) (leb (s + one_store (instruction_of f at)) 16) 7 (at + 2) _ (λ r. h)))
+      (λ l. past_range (Upto n) _ InstructionByte (at + 2) _
+      (λ q. past_demand (Upto n) (leb (s + one_store (instruction_of f at)) 16) StoreCount (at + 2) _ (λ r. h)))
 
   -- ---- threads: four bytes and at most 16 instructions each
   thread_same : (i at s : ℕ) (p : Program) → at + 148 ≤ length f → read_thread (f ++ g) i at s p ≡ read_thread f i at s p
@@ -97,11 +97,11 @@ module _ (f g : List ℕ) where
   unfolding read_condition
   condition_same k at s p h =
       marked_same at 0x43 0x4E 4 _ _ (omega arith)
-      (ap (λ (x : Condition). in_range (condition_tests p.threads x) 8 (at + 2) (reading (at + 6) s (with_question p.conditions (set p.question k x) p))) (asked_same at h))
+      (ap (λ (x : Condition). in_range (condition_tests p.threads x) ConditionByte (at + 2) (reading (at + 6) s (with_question p.conditions (set p.question k x) p))) (asked_same at h))
 
   condition_upto : (n k at s : ℕ) (p : Program) → at + 6 ≤ n → IfReading (Upto n) (read_condition f k at s p)
   unfolding read_condition
-  condition_upto n k at s p h = past_mark (Upto n) f at 0x43 0x4E 4 _ (λ l. past_range (Upto n) _ 8 (at + 2) _ (λ q. h))
+  condition_upto n k at s p h = past_mark (Upto n) f at 0x43 0x4E 4 _ (λ l. past_range (Upto n) _ ConditionByte (at + 2) _ (λ q. h))
 
   question_same : (x : Reading) → IfReading Threaded x → 647 ≤ length f → read_question (f ++ g) x ≡ read_question f x
   unfolding read_question

@@ -9,25 +9,26 @@ use lib.Dec.{T, eqb, leb, leb→le}
 use lib.ListN.{length}
 use Rattle.program.specs.Tests.{all_of}
 use Rattle.program.specs.Program.{Program}
+use Rattle.program.specs.Refusals.{Refusal, InputEnds, OtherMark}
 use Rattle.program.specs.File.{Reading, stopped, reading, byte_at, demand, marked, in_range, read_each}
 use Rattle.program.specs.Inner.{IfReading}
 use Rattle.program.proofs.Tests.{and_both}
 
 module _ (P : ℕ → ℕ → Program → Type 0) where
-  pub past_demand : (b : Bool) (n place : ℕ) (on : Reading) → (T b → IfReading P on) → IfReading P (demand b n place on)
-  past_demand true n place on h = h tt
-  past_demand false n place on h = tt
+  pub past_demand : (b : Bool) (r : Refusal) (place : ℕ) (on : Reading) → (T b → IfReading P on) → IfReading P (demand b r place on)
+  past_demand true r place on h = h tt
+  past_demand false r place on h = tt
 
   pub past_mark : (f : List ℕ) (at first second n : ℕ) (on : Reading) → (at + 2 + n ≤ length f → IfReading P on) → IfReading P (marked f at first second n on)
   unfolding marked
   past_mark f at first second n on h =
-      past_demand (leb (at + 2 + n) (length f)) 1 at _
-      (λ t. past_demand (eqb (byte_at f at) first && eqb (byte_at f (at + 1)) second) 2 at on (λ u. h (leb→le (at + 2 + n) (length f) t)))
+      past_demand (leb (at + 2 + n) (length f)) InputEnds at _
+      (λ t. past_demand (eqb (byte_at f at) first && eqb (byte_at f (at + 1)) second) OtherMark at on (λ u. h (leb→le (at + 2 + n) (length f) t)))
 
-  pub past_range : (bs : List Bool) (n at : ℕ) (on : Reading) → (T (all_of bs) → IfReading P on) → IfReading P (in_range bs n at on)
+  pub past_range : (bs : List Bool) (r : Refusal) (at : ℕ) (on : Reading) → (T (all_of bs) → IfReading P on) → IfReading P (in_range bs r at on)
   unfolding in_range all_of
-  past_range [] n at on h = h tt
-  past_range (b ∷ bs) n at on h = past_demand b n at _ (λ t. past_range bs n (suc at) on (λ u. h (and_both b (all_of bs) t u)))
+  past_range [] r at on h = h tt
+  past_range (b ∷ bs) r at on h = past_demand b r at _ (λ t. past_range bs r (suc at) on (λ u. h (and_both b (all_of bs) t u)))
 
 -- n records: what each keeps holds at their end, and so does what follows from it
 module _ (one : ℕ → ℕ → ℕ → Program → Reading) (P : ℕ → ℕ → ℕ → Program → Type 0) (n : ℕ)
@@ -35,9 +36,9 @@ module _ (one : ℕ → ℕ → ℕ → Program → Reading) (P : ℕ → ℕ �
   module _ (Q : ℕ → ℕ → Program → Type 0) (ends : (at s : ℕ) (p : Program) → P n at s p → Q at s p) where
     rest_keeps : (m k : ℕ) (x : Reading) → k + m ≡ n → IfReading (P k) x → IfReading Q (read_each one m k x)
     unfolding read_each
-    rest_keeps zero k (stopped number place) e w = tt
+    rest_keeps zero k (stopped r place) e w = tt
     rest_keeps zero k (reading at s p) e w = let z : k ≡ n = omega arith in ends at s p (subst (λ (j : ℕ). P j at s p) z w)
-    rest_keeps (suc m) k (stopped number place) e w = tt
+    rest_keeps (suc m) k (stopped r place) e w = tt
     rest_keeps (suc m) k (reading at s p) e w = rest_keeps m (suc k) (one k at s p) (omega arith) (keeps k at s p (omega arith) w)
 
     pub each_keeps : (x : Reading) → IfReading (P 0) x → IfReading Q (read_each one n 0 x)
@@ -48,7 +49,7 @@ module _ (one : ℕ → ℕ → ℕ → Program → Reading) (P : ℕ → ℕ �
     rest_same : (m k : ℕ) (x : Reading) → k + m ≡ n → IfReading (P k) x → read_each other m k x ≡ read_each one m k x
     unfolding read_each
     rest_same zero k x e w = refl
-    rest_same (suc m) k (stopped number place) e w = refl
+    rest_same (suc m) k (stopped r place) e w = refl
     rest_same (suc m) k (reading at s p) e w =
         ap (read_each other m (suc k)) (same k at s p (omega arith) w) ∙ rest_same m (suc k) (one k at s p) (omega arith) (keeps k at s p (omega arith) w)
 

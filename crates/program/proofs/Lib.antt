@@ -11,6 +11,7 @@ pub mod ReadThreads
 pub mod ReadFormed
 pub mod Reader
 pub mod Arrays
+pub mod PassedOn
 pub mod Reading
 pub mod Coincide
 pub mod Loops

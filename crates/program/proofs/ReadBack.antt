@@ -14,6 +14,7 @@ use Rattle.program.specs.Tests.{all_of, sum_below}
 use Rattle.program.specs.Program.{Instruction, Code, Condition, Program, no_instruction, no_code, no_condition, no_program, instruction_at, code_of}
 use Rattle.program.specs.Counts.{one_store, stores_among, stores_from, stores}
 use Rattle.program.specs.WellFormed.{instruction_tests, instruction_test, condition_tests, condition_test, program_test}
+use Rattle.program.specs.Refusals.{Refusal, InputEnds, OtherMark, OtherVersion, ThreadCount, InstructionCount, InstructionByte, StoreCount, ConditionByte, BytesFollow, ThreadNumber}
 use Rattle.program.specs.File.{refused, program, Reading, reading, byte_at, demand, marked, in_range, with_header, read_header, instruction_of, with_code, with_instruction, read_each, read_instruction, read_thread, condition_of, with_question, read_condition, read_question, read_end, read_body, read_file}
 use Rattle.program.specs.Encode.{each_record, instruction_record, instruction_records, thread_record, thread_records, condition_record, condition_records, question_records, file_of}
 use Rattle.program.proofs.Counts.{sum_grows}
@@ -24,14 +25,14 @@ use Rattle.program.proofs.Places.{At, at_fits, at_byte, at_first, at_second}
 use Rattle.program.proofs.Shape.{ProgramShape, program_iff}
 
 -- ---- tests that pass
-demand_yes : (b : Bool) (n place : ℕ) (on : Reading) → T b → demand b n place on ≡ on
-demand_yes true n place on h = refl
-demand_yes false n place on h = absurd h
+demand_yes : (b : Bool) (r : Refusal) (place : ℕ) (on : Reading) → T b → demand b r place on ≡ on
+demand_yes true r place on h = refl
+demand_yes false r place on h = absurd h
 
-in_range_all : (bs : List Bool) (n at : ℕ) (on : Reading) → T (all_of bs) → in_range bs n at on ≡ on
+in_range_all : (bs : List Bool) (r : Refusal) (at : ℕ) (on : Reading) → T (all_of bs) → in_range bs r at on ≡ on
 unfolding in_range all_of
-in_range_all [] n at on h = refl
-in_range_all (b ∷ bs) n at on h = demand_yes b n at _ (and_left b (all_of bs) h) ∙ in_range_all bs n (suc at) on (and_right b (all_of bs) h)
+in_range_all [] r at on h = refl
+in_range_all (b ∷ bs) r at on h = demand_yes b r at _ (and_left b (all_of bs) h) ∙ in_range_all bs r (suc at) on (and_right b (all_of bs) h)
 
 -- a record that stands at the place is found there
 module _ {f : List ℕ} {at : ℕ} (a b : ℕ) (body : List ℕ) (h : At f at (a ∷ b ∷ body)) where
@@ -42,8 +43,8 @@ module _ {f : List ℕ} {at : ℕ} (a b : ℕ) (body : List ℕ) (h : At f at (a
       let first_byte = at_byte h 0 (omega arith) in
       let second-byte = at_byte h 1 (omega arith) in
       let z : at + 0 ≡ at = omega arith in
-      demand_yes (leb (at + 2 + n) (length f)) 1 at _ (le→leb (at + 2 + n) (length f) (omega arith))
-      ∙ demand_yes (eqb (byte_at f at) a && eqb (byte_at f (at + 1)) b) 2 at on
+      demand_yes (leb (at + 2 + n) (length f)) InputEnds at _ (le→leb (at + 2 + n) (length f) (omega arith))
+      ∙ demand_yes (eqb (byte_at f at) a && eqb (byte_at f (at + 1)) b) OtherMark at on
       (and_both (eqb (byte_at f at) a) (eqb (byte_at f (at + 1)) b) (eq→eqb (ap (byte_at f) (sym z) ∙ first_byte)) (eq→eqb second-byte))
 
 -- ---- n records: `counted k` stores and the program `so_far k` once k of them are read
@@ -84,11 +85,11 @@ read_instruction_lem : {f : List ℕ} (i k at s : ℕ) (p : Program) (x : Instru
 unfolding read_instruction instruction_test
 read_instruction_lem {f} i k at s p x h t few =
     ap (λ (y : Instruction).
-    marked f at 0x49 0x4E 7 (in_range (instruction_tests (code_of p i).count k y) 6 (at + 2) (demand (leb (s + one_store y) 16) 7 (at + 2) (reading (at + 9) (s + one_store y) (with_instruction i k y p)))))
+    marked f at 0x49 0x4E 7 (in_range (instruction_tests (code_of p i).count k y) InstructionByte (at + 2) (demand (leb (s + one_store y) 16) StoreCount (at + 2) (reading (at + 9) (s + one_store y) (with_instruction i k y p)))))
     (instruction_found x h)
     ∙ mark_found 0x49 0x4E (x.op ∷ x.m ∷ x.r ∷ x.k1 ∷ x.n1 ∷ x.k2 ∷ x.n2 ∷ []) h 7 _ refl
-    ∙ in_range_all (instruction_tests (code_of p i).count k x) 6 (at + 2) _ t
-    ∙ demand_yes (leb (s + one_store x) 16) 7 (at + 2) _ (le→leb (s + one_store x) 16 few)
+    ∙ in_range_all (instruction_tests (code_of p i).count k x) InstructionByte (at + 2) _ t
+    ∙ demand_yes (leb (s + one_store x) 16) StoreCount (at + 2) _ (le→leb (s + one_store x) 16 few)
 
 -- ---- the program, read up to a place
 module _ (p : Program) (o : ProgramShape p) where
@@ -176,9 +177,9 @@ module _ (p : Program) (o : ProgramShape p) where
         let a1 : at + 4 + length (instruction_records c) ≡ at + length (thread_record i c) = omega arith in
         let s1 : s + stores_among c 0 c.count ≡ s + stores_among c 0 (c.count - 0) = ap (λ (n : ℕ). s + stores_among c 0 n) (sym z) in
         mark_found 0x54 0x48 (i ∷ c.count ∷ []) here 2 _ refl
-        ∙ demand_yes (eqb (byte_at f (at + 2)) i) 10 (at + 2) _ (eq→eqb b2)
-        ∙ ap (λ (n : ℕ). demand (leb n 16) 5 (at + 3) (read_each (read_instruction f i) n 0 (reading (at + 4) s (with_code i (record { count = n; instructions = (code_of (before i) i).instructions }) (before i))))) b3
-        ∙ demand_yes (leb c.count 16) 5 (at + 3) _ (le→leb c.count 16 short)
+        ∙ demand_yes (eqb (byte_at f (at + 2)) i) ThreadNumber (at + 2) _ (eq→eqb b2)
+        ∙ ap (λ (n : ℕ). demand (leb n 16) InstructionCount (at + 3) (read_each (read_instruction f i) n 0 (reading (at + 4) s (with_code i (record { count = n; instructions = (code_of (before i) i).instructions }) (before i))))) b3
+        ∙ demand_yes (leb c.count 16) InstructionCount (at + 3) _ (le→leb c.count 16 short)
         ∙ ap (λ (q : Program). read_each (read_instruction f i) c.count 0 (reading (at + 4) s q)) (starts i low)
         ∙ ap (λ (t : ℕ). read_each (read_instruction f i) c.count 0 (reading (at + 4) t (within i 0))) s0
         ∙ read_each_lem (read_instruction f i) _ (λ k. s + stores_among c 0 k) (within i) c.count (λ k a l b. next_instruction k a s l b few') (at + 4) rest
@@ -221,9 +222,9 @@ module _ (p : Program) (o : ProgramShape p) where
         let x = condition k in
         let c8 = o.few_conditions in
         let q8 = o.eight in
-        ap (λ (y : Condition). marked f at 0x43 0x4E 4 (in_range (condition_tests p.threads y) 8 (at + 2) (reading (at + 6) s (with_question p.conditions (set (first no_condition k p.question) k y) (asking k))))) (condition_found x a)
+        ap (λ (y : Condition). marked f at 0x43 0x4E 4 (in_range (condition_tests p.threads y) ConditionByte (at + 2) (reading (at + 6) s (with_question p.conditions (set (first no_condition k p.question) k y) (asking k))))) (condition_found x a)
         ∙ mark_found 0x43 0x4E (x.kind ∷ x.thread ∷ x.index ∷ x.value ∷ []) a 4 _ refl
-        ∙ in_range_all (condition_tests p.threads x) 8 (at + 2) _ (o.conditions_ok k h)
+        ∙ in_range_all (condition_tests p.threads x) ConditionByte (at + 2) _ (o.conditions_ok k h)
         ∙ ap (λ (l : List Condition). reading (at + 6) s (with_question p.conditions l (asking k))) (first_next no_condition k p.question (omega arith))
 
     -- after all threads, the codes are there; no condition is
@@ -252,8 +253,8 @@ module _ (p : Program) (o : ProgramShape p) where
         let l = length-append head (condition_records p) in
         let a1 : at + 3 + length (condition_records p) ≡ at + length (question_records p) = omega arith in
         mark_found 0x51 0x55 (p.conditions ∷ []) here 1 _ refl
-        ∙ ap (λ (n : ℕ). demand (leb n 8) 8 (at + 2) (read_each (read_condition f) n 0 (reading (at + 3) s (with_question n (replicate 8 no_condition) (before p.threads))))) b2
-        ∙ demand_yes (leb p.conditions 8) 8 (at + 2) _ (le→leb p.conditions 8 o.few_conditions)
+        ∙ ap (λ (n : ℕ). demand (leb n 8) ConditionByte (at + 2) (read_each (read_condition f) n 0 (reading (at + 3) s (with_question n (replicate 8 no_condition) (before p.threads))))) b2
+        ∙ demand_yes (leb p.conditions 8) ConditionByte (at + 2) _ (le→leb p.conditions 8 o.few_conditions)
         ∙ ap (λ (q : Program). read_each (read_condition f) p.conditions 0 (reading (at + 3) s q)) all_codes
         ∙ read_each_lem (read_condition f) _ (λ k. s) asking p.conditions (λ k a l b. read_condition_lem k a s l b) (at + 3) rest
         ∙ (λ j. reading (a1 j) s (asking p.conditions))
@@ -271,9 +272,9 @@ module _ (p : Program) (o : ProgramShape p) where
       let lo = o.some_thread in
       let hi = o.few_threads in
       mark_found 0x50 0x47 (p.version ∷ p.threads ∷ []) h 2 _ refl
-      ∙ ap₂ (λ (x n : ℕ). demand (eqb x 1) 3 2 (demand (leb 1 n && leb n 4) 4 3 (reading 4 0 (with_header x n no_program)))) b2 b3
-      ∙ demand_yes (eqb p.version 1) 3 2 _ (eq→eqb v)
-      ∙ demand_yes (leb 1 p.threads && leb p.threads 4) 4 3 _ (and_both (leb 1 p.threads) (leb p.threads 4) (le→leb 1 p.threads lo) (le→leb p.threads 4 hi))
+      ∙ ap₂ (λ (x n : ℕ). demand (eqb x 1) OtherVersion 2 (demand (leb 1 n && leb n 4) ThreadCount 3 (reading 4 0 (with_header x n no_program)))) b2 b3
+      ∙ demand_yes (eqb p.version 1) OtherVersion 2 _ (eq→eqb v)
+      ∙ demand_yes (leb 1 p.threads && leb p.threads 4) ThreadCount 3 _ (and_both (leb 1 p.threads) (leb p.threads 4) (le→leb 1 p.threads lo) (le→leb p.threads 4 hi))
       ∙ ap (λ (l : List Code). reading 4 0 (record { version = p.version; threads = p.threads; codes = l; conditions = 0; question = replicate 8 no_condition }))
       (sym (first_none no_code p.codes ∙ ap (λ (n : ℕ). replicate n no_code) o.four))
 
@@ -284,7 +285,7 @@ read_back p h =
     ap (λ (x : Reading). read_end f (read_question f (read_body f x))) (read_header_lem p o f (at_first head body whole))
     ∙ ap (λ (x : Reading). read_end f (read_question f x)) (read_threads p o f 4 (at_first threads (question_records p) behind))
     ∙ ap (read_end f) (read_question_lem p o f (4 + length threads) (stores_before p o p.threads) (at_second threads (question_records p) behind))
-    ∙ ap (λ (b : Bool). cond b (program (asking p o p.conditions)) (refused 9 (4 + length threads + length (question_records p)))) (eq-eqb (4 + length threads + length (question_records p)) (length f) ends_there)
+    ∙ ap (λ (b : Bool). cond b (program (asking p o p.conditions)) (refused BytesFollow (4 + length threads + length (question_records p)))) (eq-eqb (4 + length threads + length (question_records p)) (length f) ends_there)
     ∙ ap program (all_read p o f)
   where
     o : ProgramShape p

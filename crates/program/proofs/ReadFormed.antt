@@ -15,6 +15,7 @@ use Rattle.program.specs.Tests.{sum_below}
 use Rattle.program.specs.Program.{Code, Condition, Program, no_code, no_condition, no_program, code_of}
 use Rattle.program.specs.Counts.{stores}
 use Rattle.program.specs.WellFormed.{condition_tests, condition_test, program_test}
+use Rattle.program.specs.Refusals.{OtherVersion, ThreadCount, ConditionByte, BytesFollow}
 use Rattle.program.specs.File.{refused, program, Reading, stopped, reading, byte_at, with_header, read_header, condition_of, with_question, read_condition, read_thread, read_question, read_end, read_body, read_file}
 use Rattle.program.specs.Inner.{IfReading}
 use Rattle.program.proofs.Tests.{and_left, and_right}
@@ -55,7 +56,7 @@ module _ (N : ℕ) (f : List ℕ) where
       let x = condition_of f at in
       let P = Asked n (suc k) in
       past_mark P f at 0x43 0x4E 4 _
-      (λ l. past_range P (condition_tests q.threads x) 8 (at + 2) _
+      (λ l. past_range P (condition_tests q.threads x) ConditionByte (at + 2) _
       (λ g. filled_in x (subst (λ (u : ℕ). T (condition_test u x)) w.threads_are g)))
     where
       filled_in : (x : Condition) → T (condition_test N x) → Asked n (suc k) (at + 6) s (with_question q.conditions (set q.question k x) q)
@@ -113,7 +114,7 @@ module _ (N : ℕ) (f : List ℕ) where
   asked_read at s q lo hi w =
       let n = byte_at f (at + 2) in
       past_mark Whole f at 0x51 0x55 1 _
-      (λ l. past_demand Whole (leb n 8) 8 (at + 2) _
+      (λ l. past_demand Whole (leb n 8) ConditionByte (at + 2) _
       (λ d. let small = leb→le n 8 d in
       each_keeps (read_condition f) (Asked n) n (λ k a t r. condition_read n k a t r small) Whole
       (λ a t r v. (shape n a t r lo hi small v, let pl = v.place in omega arith)) (reading (at + 3) s (with_question n q.question q)) (begun n)))
@@ -150,8 +151,8 @@ header_read f =
     let v = byte_at f 2 in
     let n = byte_at f 3 in
     past_mark Headed f 0 0x50 0x47 2 _
-    (λ l. past_demand Headed (eqb v 1) 3 2 _
-    (λ d. past_demand Headed (leb 1 n && leb n 4) 4 3 _
+    (λ l. past_demand Headed (eqb v 1) OtherVersion 2 _
+    (λ d. past_demand Headed (leb 1 n && leb n 4) ThreadCount 3 _
     (λ g. (leb→le 1 n (and_left (leb 1 n) (leb n 4) g), leb→le n 4 (and_right (leb 1 n) (leb n 4) g), begun v n (eqb→eq v 1 d)))))
   where
     no_codes : (j n : ℕ) → get_or (replicate n no_code) j no_code ≡ no_code
@@ -188,7 +189,7 @@ unfolding read_end
 end_read f (stopped n place) p w e = absurd (eqb-false 0 1 refl cc)
 end_read f (reading at s q) p w e = go (eqb at (length f)) refl e
   where
-    go : (b : Bool) → eqb at (length f) ≡ b → cond b (program q) (refused 9 at) ≡ program p → ProgramShape p × (length f ≤ 647)
+    go : (b : Bool) → eqb at (length f) ≡ b → cond b (program q) (refused BytesFollow at) ≡ program p → ProgramShape p × (length f ≤ 647)
     go true g h =
         let d : q ≡ p = cc in
         let l = eqb→eq at (length f) (subst T (sym g) tt) in

@@ -13,6 +13,7 @@ use Rattle.program.specs.Tests.{sum_below}
 use Rattle.program.specs.Program.{Instruction, Code, Program, no_code, no_condition, code_of}
 use Rattle.program.specs.Counts.{one_store, stores_among, stores_from}
 use Rattle.program.specs.WellFormed.{instruction_tests, instruction_test}
+use Rattle.program.specs.Refusals.{InstructionCount, InstructionByte, StoreCount, ThreadNumber}
 use Rattle.program.specs.File.{reading, byte_at, instruction_of, with_code, with_instruction, read_instruction, read_thread}
 use Rattle.program.specs.Inner.{IfReading}
 use Rattle.program.proofs.Counts.{sum_same}
@@ -84,8 +85,8 @@ module _ (N : ℕ) where
         let x = instruction_of f at in
         let P = Within i n (suc k) in
         past_mark P f at 0x49 0x4E 7 _
-        (λ l. past_range P (instruction_tests (code_of q i).count k x) 6 (at + 2) _
-        (λ g. past_demand P (leb (s + one_store x) 16) 7 (at + 2) _
+        (λ l. past_range P (instruction_tests (code_of q i).count k x) InstructionByte (at + 2) _
+        (λ g. past_demand P (leb (s + one_store x) 16) StoreCount (at + 2) _
         (λ d. filled_in x g (leb→le (s + one_store x) 16 d))))
       where
         filled_in : (x : Instruction) → T (instruction_test (code_of q i).count k x) → s + one_store x ≤ 16 → Within i n (suc k) (at + 9) (s + one_store x) (with_instruction i k x q)
@@ -117,8 +118,8 @@ module _ (N : ℕ) where
         let n = byte_at f (at + 3) in
         let P = Before (suc i) in
         past_mark P f at 0x54 0x48 2 _
-        (λ l. past_demand P (eqb (byte_at f (at + 2)) i) 10 (at + 2) _
-        (λ d. past_demand P (leb n 16) 5 (at + 3) _
+        (λ l. past_demand P (eqb (byte_at f (at + 2)) i) ThreadNumber (at + 2) _
+        (λ d. past_demand P (leb n 16) InstructionCount (at + 3) _
         (λ g. each_keeps (read_instruction f i) (Within i n) n (λ k a t r. one_more i n k a t r low) P (closed n) (reading (at + 4) s (started n)) (begun n (leb→le n 16 g)))))
       where
         started : ℕ → Program

@@ -1,107 +1,123 @@
 -- The cases of a reading, over plain values: what each test of a record makes of it.
 -- Assumes nothing.
-use mathlib.Core.Path.{◌≡◌, refl, ◌∙◌}
-use mathlib.Core.Bool.{Bool, true, false, cond, ◌&&◌}
+use mathlib.Core.Path.{◌≡◌, refl, sym, ap, ◌∙◌}
+use mathlib.Core.Bool.{Bool, true, false, cond, not, ◌&&◌}
 use mathlib.Core.List.{List, [], ◌∷◌}
 use Prim.Native.Nat.{ℕ, suc, ◌+◌, ◌-◌, ◌≤◌, ◌<◌}
 use native.Mathlib.Nat.{add-zero}
 use native.Mathlib.Omega.{arith}
-use lib.Dec.{eqb, leb, ltb, eqb-suc-suc, leb-suc-suc}
+use lib.Dec.{eqb, leb}
 use lib.ListN.{length, set}
-use borrow.Author.Tests.{eq-eqb, ne_eqb, le-leb, lt-leb, lt-ltb, le-ltb, leb-true, eqb-false}
+use borrow.Author.Tests.{eq-eqb, ne_eqb, le-leb, lt-leb, leb-true, eqb-false}
+use Rattle.std.specs.Prelude.{Option, Some, None, Result, Ok, Err, is_some, is_none, option_map}
 use Rattle.program.specs.Tests.{all_of}
 use Rattle.program.specs.Program.{Instruction, Code, Condition, Program, no_program, code_of}
 use Rattle.program.specs.Counts.{one_store}
 use Rattle.program.specs.WellFormed.{instruction_tests, condition_tests}
+use Rattle.program.specs.Refusals.{Refusal, Refused, InputEnds, OtherMark, OtherVersion, ThreadCount, InstructionCount, InstructionByte, StoreCount, ConditionByte, ThreadNumber}
 use Rattle.program.specs.File.{Reading, stopped, reading, byte_at, demand, marked, in_range, with_header, with_code, with_instruction, with_question, instruction_of, condition_of, read_header, read_each, read_instruction, read_thread, read_condition, read_question}
-use Rattle.program.specs.Inner.{unless, first_failing}
+use Rattle.program.specs.Inner.{after, first_failing}
 
 -- ---- a record's start
 module _ (f : List ℕ) (at first second n : ℕ) (on : Reading) (in-file : at ≤ length f) where
-  pub marked_short : length f - at < 2 + n → marked f at first second n on ≡ stopped 1 at
+  pub marked_short : length f - at < 2 + n → marked f at first second n on ≡ stopped InputEnds at
   unfolding marked
   marked_short h = rw (lt-leb (at + 2 + n) (length f) (omega arith))
 
   module _ (h : 2 + n ≤ length f - at) where
-    pub marked_first : (byte_at f at ≡ first → ⊥) → marked f at first second n on ≡ stopped 2 at
+    pub marked_other : (eqb (byte_at f at) first && eqb (byte_at f (at + 1)) second) ≡ false → marked f at first second n on ≡ stopped OtherMark at
     unfolding marked
-    marked_first a = rw (le-leb (at + 2 + n) (length f) (omega arith), ne_eqb _ _ a)
+    marked_other e = rw (le-leb (at + 2 + n) (length f) (omega arith), e)
 
-    pub marked_second : byte_at f at ≡ first → (byte_at f (at + 1) ≡ second → ⊥) → marked f at first second n on ≡ stopped 2 at
+    pub marked_right : (eqb (byte_at f at) first && eqb (byte_at f (at + 1)) second) ≡ true → marked f at first second n on ≡ on
     unfolding marked
-    marked_second a b = rw (le-leb (at + 2 + n) (length f) (omega arith), eq-eqb _ _ a, ne_eqb _ _ b)
+    marked_right e = rw (le-leb (at + 2 + n) (length f) (omega arith), e)
 
-    pub marked_right : byte_at f at ≡ first → byte_at f (at + 1) ≡ second → marked f at first second n on ≡ on
-    unfolding marked
-    marked_right a b = rw (le-leb (at + 2 + n) (length f) (omega arith), eq-eqb _ _ a, eq-eqb _ _ b)
+-- r is what is wrong at a record's start, if anything
+abbrev pub Fault : List ℕ → ℕ → ℕ → ℕ → ℕ → Result Unit Refused → Type 0
+Fault f at first second n r = (on : Reading) → marked f at first second n on ≡ after r on
 
--- r is what is wrong at a record's start, 0 for nothing
-abbrev pub Fault : List ℕ → ℕ → ℕ → ℕ → ℕ → ℕ → Type 0
-Fault f at first second n r = (on : Reading) → marked f at first second n on ≡ unless r at on
-
-module _ (f : List ℕ) (at first second n r : ℕ) (e : Fault f at first second n r) where
-  pub fault_stops : 0 < r → (on : Reading) → marked f at first second n on ≡ stopped r at
-  fault_stops h on = e on ∙ rw (ne_eqb r 0 (λ q. omega arith))
-
-  pub fault_goes : r ≤ 0 → (on : Reading) → marked f at first second n on ≡ on
-  fault_goes h on = e on ∙ rw (eq-eqb r 0 (omega arith))
-
-  -- the record is there with its body
-  pub fault_fits : r ≤ 0 → at + 2 + n ≤ length f
-  unfolding marked
-  fault_fits h = go (leb (at + 2 + n) (length f)) refl (eqb (byte_at f at) first && eqb (byte_at f (at + 1)) second) (fault_goes h (reading 0 0 no_program))
-    where
-      go : (b : Bool) → leb (at + 2 + n) (length f) ≡ b → (c : Bool)
-          → demand b 1 at (demand c 2 at (reading 0 0 no_program)) ≡ reading 0 0 no_program → at + 2 + n ≤ length f
-      go true q c k = leb-true _ _ q
-      go false q c k = absurd (eqb-false 0 1 refl cc)
+-- the record is there with its body
+pub mark_fits : (f : List ℕ) (at first second n : ℕ) {u : Unit} → Fault f at first second n (Ok u) → at + 2 + n ≤ length f
+unfolding marked
+mark_fits f at first second n e = go (leb (at + 2 + n) (length f)) refl (eqb (byte_at f at) first && eqb (byte_at f (at + 1)) second) (e (reading 0 0 no_program))
+  where
+    go : (b : Bool) → leb (at + 2 + n) (length f) ≡ b → (c : Bool)
+        → demand b InputEnds at (demand c OtherMark at (reading 0 0 no_program)) ≡ reading 0 0 no_program → at + 2 + n ≤ length f
+    go true q c k = leb-true _ _ q
+    go false q c k = absurd (eqb-false 0 1 refl cc)
 
 -- ---- a body's bytes: the first test that fails
-pub in_range_lem : (bs : List Bool) (n at : ℕ) (on : Reading) → in_range bs n at on ≡ cond (ltb (first_failing bs) (length bs)) (stopped n (at + first_failing bs)) on
+-- on where no test fails, else stopped at the byte that fails
+abbrev pub beyond : Option ℕ → Refusal → ℕ → Reading → Reading
+beyond None r at on = on
+beyond (Some bad) r at on = stopped r (at + bad)
+
+pub in_range_lem : (bs : List Bool) (r : Refusal) (at : ℕ) (on : Reading) → in_range bs r at on ≡ beyond (first_failing bs) r at on
 unfolding in_range first_failing
-in_range_lem [] n at on = refl
-in_range_lem (true ∷ bs) n at on =
-    let e : suc at + first_failing bs ≡ at + suc (first_failing bs) = omega arith in
-    in_range_lem bs n (suc at) on ∙ rw (e, leb-suc-suc (suc (first_failing bs)) (length bs))
-in_range_lem (false ∷ bs) n at on = rw (lt-ltb 0 (suc (length bs)) (omega arith), add-zero at)
+in_range_lem [] r at on = refl
+in_range_lem (true ∷ bs) r at on = in_range_lem bs r (suc at) on ∙ go (first_failing bs)
+  where
+    go : (o : Option ℕ) → beyond o r (suc at) on ≡ beyond (option_map suc o) r at on
+    go None = refl
+    go (Some bad) = let e : suc at + bad ≡ at + suc bad = omega arith in ap (stopped r) e
+in_range_lem (false ∷ bs) r at on = ap (stopped r) (sym (add-zero at))
 
 -- none fails exactly where all pass
-pub none_failing : (bs : List Bool) → eqb (first_failing bs) (length bs) ≡ all_of bs
+none_failing : (bs : List Bool) → is_none (first_failing bs) ≡ all_of bs
 unfolding first_failing all_of
 none_failing [] = refl
-none_failing (true ∷ bs) = rw (eqb-suc-suc (first_failing bs) (length bs)) (none_failing bs)
-none_failing (false ∷ bs) = ne_eqb 0 (suc (length bs)) (λ e. omega arith)
+none_failing (true ∷ bs) = go (first_failing bs) ∙ none_failing bs
+  where
+    go : (o : Option ℕ) → is_none (option_map suc o) ≡ is_none o
+    go None = refl
+    go (Some bad) = refl
+none_failing (false ∷ bs) = refl
 
-module _ (bs : List Bool) (n at bad : ℕ) (on : Reading) (e : bad ≡ first_failing bs) where
-  pub range_stops : bad < length bs → in_range bs n at on ≡ stopped n (at + bad)
-  range_stops h = in_range_lem bs n at on ∙ rw (← e, lt-ltb _ _ h)
+none_by : (b : Bool) (o : Option ℕ) → is_some o ≡ not b → b ≡ is_none o
+none_by true o e = rw e
+none_by false o e = rw e
 
-  pub range_goes : length bs ≤ bad → in_range bs n at on ≡ on
-  range_goes h = in_range_lem bs n at on ∙ rw (← e, le-ltb _ _ h)
+pub none_test : {b : Bool} {r : Option ℕ} (bs : List Bool) → is_some r ≡ not b → r ≡ first_failing bs → b ≡ all_of bs
+none_test {b} {r} bs e q = none_by b r e ∙ (ap is_none q ∙ none_failing bs)
+
+-- it is one of them
+pub failing_within : (bs : List Bool) (bad : ℕ) → Some bad ≡ first_failing bs → bad < length bs
+unfolding first_failing
+failing_within [] bad e = absurd (eqb-false 0 1 refl cc)
+failing_within (true ∷ bs) bad e = go (first_failing bs) (λ n. failing_within bs n) e
+  where
+    go : (o : Option ℕ) → ((n : ℕ) → Some n ≡ o → n < length bs) → Some bad ≡ option_map suc o → bad < suc (length bs)
+    go None h d = absurd (eqb-false 0 1 refl cc)
+    go (Some n) h d = let z : bad ≡ suc n = cc in let l = h n refl in omega arith
+failing_within (false ∷ bs) bad e = let z : bad ≡ 0 = cc in omega arith
+
+module _ (bs : List Bool) (r : Refusal) (at : ℕ) (on : Reading) where
+  pub range_stops : {bad : ℕ} → Some bad ≡ first_failing bs → in_range bs r at on ≡ stopped r (at + bad)
+  range_stops e = in_range_lem bs r at on ∙ rw (← e)
+
+  pub range_goes : None ≡ first_failing bs → in_range bs r at on ≡ on
+  range_goes e = in_range_lem bs r at on ∙ rw (← e)
 
 -- ---- the program record
-module _ (f : List ℕ) (r : ℕ) (e : Fault f 0 0x50 0x47 2 r) where
-  pub header_fault : 0 < r → read_header f ≡ stopped r 0
+module _ (f : List ℕ) where
+  pub header_fault : {e : Refused} → Fault f 0 0x50 0x47 2 (Err e) → read_header f ≡ stopped e.refusal e.place
   unfolding read_header
-  header_fault h = fault_stops f 0 0x50 0x47 2 r e h _
+  header_fault m = m _
 
-  module _ (g : r ≤ 0) where
-    pub header_3 : (byte_at f 2 ≡ 1 → ⊥) → read_header f ≡ stopped 3 2
+  module _ {u : Unit} (m : Fault f 0 0x50 0x47 2 (Ok u)) where
+    pub header_3 : (byte_at f 2 ≡ 1 → ⊥) → read_header f ≡ stopped OtherVersion 2
     unfolding read_header
-    header_3 v = fault_goes f 0 0x50 0x47 2 r e g _ ∙ rw (ne_eqb _ _ v)
+    header_3 v = m _ ∙ rw (ne_eqb _ _ v)
 
     module _ (v : byte_at f 2 ≡ 1) where
-      pub header_none : byte_at f 3 < 1 → read_header f ≡ stopped 4 3
+      pub header_4 : (leb 1 (byte_at f 3) && leb (byte_at f 3) 4) ≡ false → read_header f ≡ stopped ThreadCount 3
       unfolding read_header
-      header_none h = fault_goes f 0 0x50 0x47 2 r e g _ ∙ rw (eq-eqb _ _ v, lt-leb _ _ h)
+      header_4 h = m _ ∙ rw (eq-eqb _ _ v, h)
 
-      pub header_many : 1 ≤ byte_at f 3 → 4 < byte_at f 3 → read_header f ≡ stopped 4 3
+      pub header_on : (leb 1 (byte_at f 3) && leb (byte_at f 3) 4) ≡ true → {q : Program} → q ≡ with_header (byte_at f 2) (byte_at f 3) no_program → read_header f ≡ reading 4 0 q
       unfolding read_header
-      header_many h k = fault_goes f 0 0x50 0x47 2 r e g _ ∙ rw (eq-eqb _ _ v, le-leb _ _ h, lt-leb _ _ k)
-
-      pub header_on : 1 ≤ byte_at f 3 → byte_at f 3 ≤ 4 → (q : Program) → q ≡ with_header (byte_at f 2) (byte_at f 3) no_program → read_header f ≡ reading 4 0 q
-      unfolding read_header
-      header_on h k q eq = fault_goes f 0 0x50 0x47 2 r e g _ ∙ rw (eq-eqb _ _ v, le-leb _ _ h, le-leb _ _ k, eq)
+      header_on h eq = m _ ∙ rw (eq-eqb _ _ v, h, eq)
 
 -- ---- an instruction record
 pub store_few : (x : Instruction) (o : ℕ) → o ≡ one_store x → o ≤ 1
@@ -112,83 +128,81 @@ store_few x o e = go (eqb x.op 2) e
     go true q = omega arith
     go false q = omega arith
 
-module _ (f : List ℕ) (i k at s : ℕ) (p : Program) (r : ℕ) (e : Fault f at 0x49 0x4E 7 r) where
-  pub instruction_fault : 0 < r → read_instruction f i k at s p ≡ stopped r at
+module _ (f : List ℕ) (i k at s : ℕ) (p : Program) where
+  pub instruction_fault : {e : Refused} → Fault f at 0x49 0x4E 7 (Err e) → read_instruction f i k at s p ≡ stopped e.refusal e.place
   unfolding read_instruction
-  instruction_fault h = fault_stops f at 0x49 0x4E 7 r e h _
+  instruction_fault m = m _
 
-  module _ (g : r ≤ 0) (x : Instruction) (ex : x ≡ instruction_of f at) (c : Code) (ec : c ≡ code_of p i)
-      (bad : ℕ) (eb : bad ≡ first_failing (instruction_tests c.count k x)) where
-    bad_is : bad ≡ first_failing (instruction_tests (code_of p i).count k (instruction_of f at))
-    bad_is = rw (ec, ex) at eb
-
-    pub instruction_6 : bad < 7 → read_instruction f i k at s p ≡ stopped 6 (at + 2 + bad)
+  module _ {u : Unit} (m : Fault f at 0x49 0x4E 7 (Ok u)) {x : Instruction} (ex : x ≡ instruction_of f at) {c : Code} (ec : c ≡ code_of p i) where
+    pub instruction_6 : {bad : ℕ} → Some bad ≡ first_failing (instruction_tests c.count k x) → read_instruction f i k at s p ≡ stopped InstructionByte (at + 2 + bad)
     unfolding read_instruction
-    instruction_6 h = fault_goes f at 0x49 0x4E 7 r e g _ ∙ range_stops _ 6 (at + 2) bad _ bad_is h
+    instruction_6 eb = m _ ∙ range_stops _ _ _ _ (rw (ec, ex) at eb)
 
-    module _ (h : 7 ≤ bad) (o : ℕ) (eo : o ≡ one_store x) where
+    module _ (eb : None ≡ first_failing (instruction_tests c.count k x)) {o : ℕ} (eo : o ≡ one_store x) where
+      good : None ≡ first_failing (instruction_tests (code_of p i).count k (instruction_of f at))
+      good = rw (ec, ex) at eb
+
       store_is : o ≡ one_store (instruction_of f at)
       store_is = rw ex at eo
 
-      pub instruction_7 : 16 < s + o → read_instruction f i k at s p ≡ stopped 7 (at + 2)
+      pub instruction_7 : 16 < s + o → read_instruction f i k at s p ≡ stopped StoreCount (at + 2)
       unfolding read_instruction
-      instruction_7 l = fault_goes f at 0x49 0x4E 7 r e g _ ∙ (range_goes _ 6 (at + 2) bad _ bad_is h ∙ rw (← store_is, lt-leb _ _ l))
+      instruction_7 l = m _ ∙ (range_goes _ _ _ _ good ∙ rw (← store_is, lt-leb _ _ l))
 
-      pub instruction_on : s + o ≤ 16 → (q : Program) → q ≡ with_instruction i k x p → read_instruction f i k at s p ≡ reading (at + 9) (s + o) q
+      pub instruction_on : s + o ≤ 16 → {q : Program} → q ≡ with_instruction i k x p → read_instruction f i k at s p ≡ reading (at + 9) (s + o) q
       unfolding read_instruction
-      instruction_on l q eq = fault_goes f at 0x49 0x4E 7 r e g _ ∙ (range_goes _ 6 (at + 2) bad _ bad_is h ∙ rw (← store_is, le-leb _ _ l, eq, ex))
+      instruction_on l eq = m _ ∙ (range_goes _ _ _ _ good ∙ rw (← store_is, le-leb _ _ l, eq, ex))
 
 -- ---- a thread record
-module _ (f : List ℕ) (i at s : ℕ) (p : Program) (r : ℕ) (e : Fault f at 0x54 0x48 2 r) where
-  pub thread_fault : 0 < r → read_thread f i at s p ≡ stopped r at
+module _ (f : List ℕ) (i at s : ℕ) (p : Program) where
+  pub thread_fault : {e : Refused} → Fault f at 0x54 0x48 2 (Err e) → read_thread f i at s p ≡ stopped e.refusal e.place
   unfolding read_thread
-  thread_fault h = fault_stops f at 0x54 0x48 2 r e h _
+  thread_fault m = m _
 
-  module _ (g : r ≤ 0) where
-    pub thread_10 : (byte_at f (at + 2) ≡ i → ⊥) → read_thread f i at s p ≡ stopped 10 (at + 2)
+  module _ {u : Unit} (m : Fault f at 0x54 0x48 2 (Ok u)) where
+    pub thread_10 : (byte_at f (at + 2) ≡ i → ⊥) → read_thread f i at s p ≡ stopped ThreadNumber (at + 2)
     unfolding read_thread
-    thread_10 h = fault_goes f at 0x54 0x48 2 r e g _ ∙ rw (ne_eqb _ _ h)
+    thread_10 h = m _ ∙ rw (ne_eqb _ _ h)
 
     module _ (h : byte_at f (at + 2) ≡ i) where
-      pub thread_5 : 16 < byte_at f (at + 3) → read_thread f i at s p ≡ stopped 5 (at + 3)
+      pub thread_5 : 16 < byte_at f (at + 3) → read_thread f i at s p ≡ stopped InstructionCount (at + 3)
       unfolding read_thread
-      thread_5 l = fault_goes f at 0x54 0x48 2 r e g _ ∙ rw (eq-eqb _ _ h, lt-leb _ _ l)
+      thread_5 l = m _ ∙ rw (eq-eqb _ _ h, lt-leb _ _ l)
 
-      pub thread_on : byte_at f (at + 3) ≤ 16 → (q : Program) → q ≡ with_code i (record { count = byte_at f (at + 3); instructions = (code_of p i).instructions }) p
+      pub thread_on : byte_at f (at + 3) ≤ 16 → {q : Program} → q ≡ with_code i (record { count = byte_at f (at + 3); instructions = (code_of p i).instructions }) p
           → read_thread f i at s p ≡ read_each (read_instruction f i) (byte_at f (at + 3)) 0 (reading (at + 4) s q)
       unfolding read_thread
-      thread_on l q eq = fault_goes f at 0x54 0x48 2 r e g _ ∙ rw (eq-eqb _ _ h, le-leb _ _ l, eq)
+      thread_on l eq = m _ ∙ rw (eq-eqb _ _ h, le-leb _ _ l, eq)
 
 -- ---- a condition record
-module _ (f : List ℕ) (k at s : ℕ) (p : Program) (r : ℕ) (e : Fault f at 0x43 0x4E 4 r) where
-  pub condition_fault : 0 < r → read_condition f k at s p ≡ stopped r at
+module _ (f : List ℕ) (k at s : ℕ) (p : Program) where
+  pub condition_fault : {e : Refused} → Fault f at 0x43 0x4E 4 (Err e) → read_condition f k at s p ≡ stopped e.refusal e.place
   unfolding read_condition
-  condition_fault h = fault_stops f at 0x43 0x4E 4 r e h _
+  condition_fault m = m _
 
-  module _ (g : r ≤ 0) (x : Condition) (ex : x ≡ condition_of f at) (bad : ℕ) (eb : bad ≡ first_failing (condition_tests p.threads x)) where
-    worst_is : bad ≡ first_failing (condition_tests p.threads (condition_of f at))
-    worst_is = rw ex at eb
-
-    pub condition_8 : bad < 3 → read_condition f k at s p ≡ stopped 8 (at + 2 + bad)
+  module _ {u : Unit} (m : Fault f at 0x43 0x4E 4 (Ok u)) {x : Condition} (ex : x ≡ condition_of f at) where
+    pub condition_8 : {bad : ℕ} → Some bad ≡ first_failing (condition_tests p.threads x) → read_condition f k at s p ≡ stopped ConditionByte (at + 2 + bad)
     unfolding read_condition
-    condition_8 h = fault_goes f at 0x43 0x4E 4 r e g _ ∙ range_stops _ 8 (at + 2) bad _ worst_is h
+    condition_8 eb = m _ ∙ range_stops _ _ _ _ (rw ex at eb)
 
-    pub condition_on : 3 ≤ bad → (q : Program) → q ≡ with_question p.conditions (set p.question k x) p → read_condition f k at s p ≡ reading (at + 6) s q
+    pub condition_on : None ≡ first_failing (condition_tests p.threads x) → {q : Program} → q ≡ with_question p.conditions (set p.question k x) p → read_condition f k at s p ≡ reading (at + 6) s q
     unfolding read_condition
-    condition_on h q eq = fault_goes f at 0x43 0x4E 4 r e g _ ∙ (range_goes _ 8 (at + 2) bad _ worst_is h ∙ rw (eq, ex))
+    condition_on eb eq =
+        let good : None ≡ first_failing (condition_tests p.threads (condition_of f at)) = rw ex at eb in
+        m _ ∙ (range_goes _ _ _ _ good ∙ rw (eq, ex))
 
 -- ---- the question record
-module _ (f : List ℕ) (at s : ℕ) (p : Program) (r : ℕ) (e : Fault f at 0x51 0x55 1 r) where
-  pub question_fault : 0 < r → read_question f (reading at s p) ≡ stopped r at
+module _ (f : List ℕ) (at s : ℕ) (p : Program) where
+  pub question_fault : {e : Refused} → Fault f at 0x51 0x55 1 (Err e) → read_question f (reading at s p) ≡ stopped e.refusal e.place
   unfolding read_question
-  question_fault h = fault_stops f at 0x51 0x55 1 r e h _
+  question_fault m = m _
 
-  module _ (g : r ≤ 0) where
-    pub question_8 : 8 < byte_at f (at + 2) → read_question f (reading at s p) ≡ stopped 8 (at + 2)
+  module _ {u : Unit} (m : Fault f at 0x51 0x55 1 (Ok u)) where
+    pub question_8 : 8 < byte_at f (at + 2) → read_question f (reading at s p) ≡ stopped ConditionByte (at + 2)
     unfolding read_question
-    question_8 h = fault_goes f at 0x51 0x55 1 r e g _ ∙ rw (lt-leb _ _ h)
+    question_8 h = m _ ∙ rw (lt-leb _ _ h)
 
-    pub question_on : byte_at f (at + 2) ≤ 8 → (q : Program) → q ≡ with_question (byte_at f (at + 2)) p.question p
+    pub question_on : byte_at f (at + 2) ≤ 8 → {q : Program} → q ≡ with_question (byte_at f (at + 2)) p.question p
         → read_question f (reading at s p) ≡ read_each (read_condition f) (byte_at f (at + 2)) 0 (reading (at + 3) s q)
     unfolding read_question
-    question_on h q eq = fault_goes f at 0x51 0x55 1 r e g _ ∙ rw (le-leb _ _ h, eq)
+    question_on h eq = m _ ∙ rw (le-leb _ _ h, eq)

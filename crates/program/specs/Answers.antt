@@ -1,12 +1,10 @@
--- The answer of a reading for the code: the refusal number and its place, beside the program.
+-- The answer of a reading for the code: the program, or the refusal and its place.
 -- Assumes nothing.
-use Rattle.program.specs.Program.{no_program}
+use Rattle.std.specs.Prelude.{Result, Ok, Err}
+use Rattle.program.specs.Program.{Program}
+use Rattle.program.specs.Refusals.{Refused}
 use Rattle.program.specs.File.{FileAnswer, refused, program}
-pub use Rattle.program.specs.declared.ReadAnswer.{ReadAnswer}
-pub use Rattle.program.specs.declared.ReadAnswer.TheVariants.{Good, Refused}
-pub use Rattle.program.specs.declared.FileRead.{FileRead}
 
--- a refused file gives the program of all 0
-abbrev pub file_read : FileAnswer → FileRead
-file_read (refused n place) = record { answer = Refused n place; program = no_program }
-file_read (program p) = record { answer = Good; program = p }
+abbrev pub file_read : FileAnswer → Result Program Refused
+file_read (refused r place) = Err (record { refusal = r; place = place })
+file_read (program p) = Ok p

@@ -1,25 +1,27 @@
--- What the functions of programs promise each other: readings that go on, faults as numbers, codes whose branches land, stores.
+-- What the functions of programs promise each other: readings that go on, the first byte that is out of range, codes whose branches land, stores.
 -- Assumes nothing.
-use Rattle.std.specs.Prelude.{◌≡◌, Bool, cond, List, [], ◌∷◌, ℕ, suc, ◌+◌, ◌≤◌, eqb, ltb}
+use Rattle.std.specs.Prelude.{◌≡◌, Bool, cond, List, [], ◌∷◌, ℕ, suc, ◌+◌, ◌≤◌, eqb, ltb, Option, Some, None, Result, Ok, Err, option_map}
 use Rattle.std.proofs.Math.Option.{some}
 use Rattle.program.specs.Program.{Code, Program, Operand, Instr, Compute, Load, Store, Branch, Fence, instr_at}
+use Rattle.program.specs.Refusals.{Refused}
 use Rattle.program.specs.File.{Reading, stopped, reading}
 
 -- ---- readings
 -- P of the place, the stores and the program, if the reading goes on
 abbrev pub IfReading : (ℕ → ℕ → Program → Type 0) → Reading → Type 0
-IfReading P (stopped number place) = Unit
+IfReading P (stopped r place) = Unit
 IfReading P (reading at s p) = P at s p
 
--- ---- faults as numbers
--- a record's start: no fault for 0, else the refusal with that number
-abbrev pub unless : ℕ → ℕ → Reading → Reading
-unless n place on = cond (eqb n 0) on (stopped n place)
+-- on after what is done, or stopped by its refusal
+abbrev pub after : Result Unit Refused → Reading → Reading
+after (Ok done) on = on
+after (Err e) on = stopped e.refusal e.place
 
--- the place of the first test that fails, or the number of tests
-unfoldable pub first_failing : List Bool → ℕ
-first_failing [] = 0
-first_failing (b ∷ bs) = let rest = first_failing bs in cond b (suc rest) 0
+-- ---- bytes out of range
+-- the place of the first test that fails, if one does
+unfoldable pub first_failing : List Bool → Option ℕ
+first_failing [] = None
+first_failing (b ∷ bs) = cond b (option_map suc (first_failing bs)) (Some 0)
 
 -- ---- two of a condition's tests, by themselves
 abbrev pub asked_thread_test : ℕ → ℕ → ℕ → Bool

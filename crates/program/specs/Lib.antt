@@ -2,6 +2,7 @@ pub mod Tests
 pub mod Program
 pub mod Counts
 pub mod WellFormed
+pub mod Refusals
 pub mod File
 pub mod Encode
 pub mod Answers

@@ -5,6 +5,7 @@ ghost use Rattle.std.specs.Prelude.{◌≡◌, ◌<◌};
 ghost use Rattle.std.proofs.Math.Option.{some};
 ghost use Rattle.program.specs.Program.{operand, compute_mode, load_mode, store_mode, fence_mode, decode, instruction_at, instr_at, code_of};
 ghost use Rattle.program.specs.Counts.{one_store};
+ghost use Rattle.program.specs.Refusals.{number};
 
 // An instruction's seven bytes. The operand (k, n) is the constant n for k = 0, the register n for k = 1.
 #[derive(Clone, Copy)]
@@ -88,17 +89,41 @@ pub enum Instr {
     Fence(FenceMode),
 }
 
-// The answer to a file: a program, or the number and the place of the refusal.
-#[derive(Clone, Copy)]
-pub enum ReadAnswer {
-    Good,
-    Refused(u8, usize),
+// Why an input, a step or a search is refused. Each refusal has a number, by which the C calls and their header name it.
+#[derive(Clone, Copy, PartialEq, Eq)]
+pub enum Refusal {
+    // of a program file or a trace file
+    InputEnds = 1,
+    OtherMark = 2,
+    OtherVersion = 3,
+    ThreadCount = 4,
+    InstructionCount = 5,
+    InstructionByte = 6,
+    StoreCount = 7,
+    ConditionByte = 8,
+    BytesFollow = 9,
+    ThreadNumber = 10,
+    // of a step or a certification
+    NotWellFormed = 20,
+    NoThread = 21,
+    StepKind = 22,
+    NoLocation = 23,
+    MemoryFull = 24,
+    AtEnd = 25,
+    NoMessage = 26,
+    NewerMessage = 27,
+    ViewNotBelow = 28,
+    NotCertified = 29,
+    // of a search or a listing
+    ShortArea = 30,
+    ManyOutcomes = 40,
 }
 
+// A refusal, and the place of the byte that is refused.
 #[derive(Clone, Copy)]
-pub struct FileRead {
-    pub answer: ReadAnswer,
-    pub program: Program,
+pub struct Refused {
+    pub refusal: Refusal,
+    pub place: usize,
 }
 
 fn operand_of(k: u8, n: u8) -> Operand
@@ -202,5 +227,22 @@ impl Program {
         ensures { result ≡ code_of self i }
     {
         self.codes[i as usize]
+    }
+}
+
+impl Refusal {
+    pub fn number(self) -> u8
+        ensures { result ≡ number self }
+    {
+        self as u8
+    }
+
+    pub fn at(self, place: usize) -> Refused
+        ensures { result ≡ record { refusal = self; place = place } }
+    {
+        Refused {
+            refusal: self,
+            place,
+        }
     }
 }

@@ -16,7 +16,7 @@ fn instruction_test(n: u8, k: u8, i: Instruction) -> bool
     requires { k < 16 }
     ensures { result ≡ instruction_test n k i }
 {
-    instruction_fault(n, k as usize, i) == 7
+    instruction_fault(n, k as usize, i).is_none()
 }
 
 fn unused_instruction(i: Instruction) -> bool
@@ -106,7 +106,7 @@ fn program_stores(p: Program) -> u16
 fn condition_test(threads: u8, q: Condition) -> bool
     ensures { result ≡ condition_test threads q }
 {
-    condition_fault(threads, q) == 3
+    condition_fault(threads, q).is_none()
 }
 
 fn unused_condition(q: Condition) -> bool

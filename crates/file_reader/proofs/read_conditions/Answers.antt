@@ -1,31 +1,22 @@
 -- `file_reader::read_conditions` meets its contract.
 -- Assumes nothing.
+use mathlib.Core.Path.{◌∙◌}
 use native.Mathlib.Omega.{arith}
-use Rattle.program.specs.File.{reading}
-use Rattle.file_cursor.proofs.Cursors.{as_read, sound_of, going_in, ahead_start, ahead_stops, ahead_turn, ahead_end, from_start, condition_within}
+use Rattle.program.proofs.PassedOn.{passed_on}
+use Rattle.file_cursor.proofs.Cursors.{ahead_start, ahead_stops, ahead_turn, ahead_end, condition_within}
 use Rattle.file_reader.proofs.read_conditions.Goals as goal
 
 pub loop-k-init : goal.loop-k-init
-loop-k-init c =
-    let a = c.args in
-    ahead_start _ _ _ _ (sound_of _ _ (reading a.at a.s a.p) c.go_on-c.ensures c.requires.1)
+loop-k-init c = ahead_start _ _ _ _ c.requires.1
 
-pub returns-in_default : goal.returns-in_default
-returns-in_default c =
-    let a = c.args in
-    as_read (ahead_stops _ _ _ _ _ _ c.loop-k.invariant _ _ c.in_default.is)
-    (from_start _ _ _ (reading a.at a.s a.p) c.go_on-c.ensures)
+pub read_condition-requires : goal.read_condition-requires
+read_condition-requires c = (omega (arith, c.requires.0, c.loop-k-test.true), c.loop-k.invariant.inside)
 
-pub read_condition-c-requires : goal.read_condition-c-requires
-read_condition-c-requires c =
-    let w = going_in _ _ _ _ c.loop-k.invariant.sound c.in-Going.is in
-    (omega (arith, c.requires.0, c.loop-k-test.true), w)
+pub returns-in_err-c : goal.returns-in_err-c
+returns-in_err-c c = passed_on _ _ c.from_residual.ensures.1 ∙ ahead_stops _ _ _ _ _ _ c.loop-k.invariant c.loop-k-test.true _ c.in_err-c.ensures
 
 pub loop-k-preserved : goal.loop-k-preserved
-loop-k-preserved c = ahead_turn _ _ _ _ _ _ c.loop-k.invariant (condition_within _) c.loop-k-test.true _ _ c.in-Going.is _ c.read_condition-c.ensures
+loop-k-preserved c = ahead_turn _ _ _ _ _ _ c.loop-k.invariant (condition_within _) c.loop-k-test.true _ c.in_ok-c.ensures
 
 pub returns : goal.returns
-returns c =
-    let a = c.args in
-    as_read (ahead_end _ _ _ _ _ _ c.loop-k.invariant c.loop-k-test.false)
-    (from_start _ _ _ (reading a.at a.s a.p) c.go_on-c.ensures)
+returns c = ahead_end _ _ _ _ _ _ c.loop-k.invariant c.loop-k-test.false

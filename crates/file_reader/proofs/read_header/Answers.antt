@@ -1,28 +1,27 @@
 -- `file_reader::read_header` meets its contract.
 -- Assumes nothing.
+use mathlib.Core.Path.{refl, ap}
 use native.Mathlib.Omega.{arith}
+use Rattle.std.specs.Prelude.{Err}
+use Rattle.program.proofs.PassedOn.{passed_on}
+use Rattle.program.proofs.Reading.{mark_fits, header_fault, header_3, header_4, header_on}
 use Rattle.file_cursor.proofs.Cursors.{as_read}
-use Rattle.program.proofs.Reading.{fault_fits, header_fault, header_3, header_none, header_many, header_on}
 use Rattle.file_reader.proofs.read_header.Goals as goal
 
-pub returns-then-wrong-gt0 : goal.returns-then-wrong-gt0
-returns-then-wrong-gt0 c = as_read c.stop.ensures (header_fault _ _ c.fault-wrong.ensures c.if-wrong-gt0.true)
+pub returns-in_err-marked : goal.returns-in_err-marked
+returns-in_err-marked c = as_read (passed_on _ _ c.from_residual.ensures.1) (header_fault _ c.in_err-marked.ensures)
 
 pub bounds-file-2 : goal.bounds-file-2
-bounds-file-2 c = omega (arith, fault_fits _ _ _ _ _ _ c.fault-wrong.ensures c.if-wrong-gt0.false)
+bounds-file-2 c = omega (arith, mark_fits _ _ _ _ _ c.in_ok-marked.ensures)
 
-pub returns-then-v-ne1 : goal.returns-then-v-ne1
-returns-then-v-ne1 c = as_read c.stop-then-v-ne1.ensures (header_3 _ _ c.fault-wrong.ensures c.if-wrong-gt0.false c.if-v-ne1.true)
+pub returns-then-version-ne1 : goal.returns-then-version-ne1
+returns-then-version-ne1 c = as_read (ap Err c.at.ensures) (header_3 _ c.in_ok-marked.ensures c.if-version-ne1.true)
 
 pub bounds-file-3 : goal.bounds-file-3
-bounds-file-3 c = omega (arith, fault_fits _ _ _ _ _ _ c.fault-wrong.ensures c.if-wrong-gt0.false)
+bounds-file-3 c = omega (arith, mark_fits _ _ _ _ _ c.in_ok-marked.ensures)
 
-pub returns-then-n-lt1 : goal.returns-then-n-lt1
-returns-then-n-lt1 c = as_read c.stop-then-n-lt1.ensures (header_none _ _ c.fault-wrong.ensures c.if-wrong-gt0.false c.if-v-ne1.false c.if-n-lt1.true)
+pub returns-then-threads : goal.returns-then-threads
+returns-then-threads c = as_read refl (header_on _ c.in_ok-marked.ensures c.if-version-ne1.false c.if-threads.true c.with_header.ensures)
 
-pub returns-then-n-gt4 : goal.returns-then-n-gt4
-returns-then-n-gt4 c = as_read c.stop-then-n-gt4.ensures (header_many _ _ c.fault-wrong.ensures c.if-wrong-gt0.false c.if-v-ne1.false c.if-n-lt1.false c.if-n-gt4.true)
-
-pub returns : goal.returns
-returns c =
-    as_read c.go_on.ensures (header_on _ _ c.fault-wrong.ensures c.if-wrong-gt0.false c.if-v-ne1.false c.if-n-lt1.false c.if-n-gt4.false _ c.with_header.ensures)
+pub returns-else-threads : goal.returns-else-threads
+returns-else-threads c = as_read (ap Err c.at-else-threads.ensures) (header_4 _ c.in_ok-marked.ensures c.if-version-ne1.false c.if-threads.false)

@@ -1,13 +1,8 @@
 -- `file_threads::read_threads` meets its contract.
 -- Assumes nothing.
-use Prim.Native.Nat.{◌-◌}
-use Rattle.file_cursor.specs.Cursors.{reading_of}
 use Rattle.program.specs.File.{read_thread}
 use Rattle.file_cursor.proofs.Cursors.{Ahead}
 use Rattle.file_threads.proofs.read_threads.Given as goal
 
 abbrev pub invariant-loop-i : goal.invariant-loop-i
-invariant-loop-i l = Ahead l.file (read_thread l.file) l.n (reading_of l.initial.c) l.i l.c
-
-abbrev pub decreases-loop-i : goal.decreases-loop-i
-decreases-loop-i l = l.n - l.i
+invariant-loop-i l = Ahead l.file (read_thread l.file) l.fn.start.program.threads l.initial.c l.i l.c
