@@ -11,13 +11,13 @@ use lib.Dec.{T, ltb, eqb→eq, ltb→lt, lt→ltb}
 use lib.ListN.{length}
 use lib.Seq.{get_or-set_same}
 use borrow.Author.Tests.{not-true}
+use Rattle.std.specs.Prelude.{Result, Ok, Err}
 use Rattle.theory_views.specs.Views.{view_at}
 use Rattle.program.proofs.Tests.{and_left, and_right, and_both, eq→eqb}
+use Rattle.program.specs.declared.Refusal.{Refusal}
 use Rattle.machine.specs.State.{no_message, has, without}
 use Rattle.machine.specs.Rules.{next, value_of, view_of, store_pre, store_done, execute, store_message}
 use Rattle.machine.specs.Inner.{ruled, below_time}
-use Rattle.machine.specs.declared.RuleAnswer.TheVariants.{Done, Refused}
-use Rattle.machine.specs.declared.Ruled.{Ruled}
 use Rattle.machine.proofs.Sets.{has_positive, has_time, ones_without}
 use Rattle.machine.proofs.Words.{ones_eqb}
 use Rattle.machine.proofs.Cases.{was_true, ruled_done, ruled_refused}
@@ -200,28 +200,28 @@ module _ (c : Code) (i : ℕ) (m : Memory) (s : Thread) (k : StoreMode) (a d : O
           and_both (ltb pre h) (ltb (view_at s.coherence w.location) h) (lt→ltb pre h early) (lt→ltb _ h (subst (λ (l : ℕ). view_at s.coherence l < h) (sym in_place) low))
 
 -- ---- whether the store can be executed and the thread is then certified
-module _ (c : Code) (i : ℕ) (m : Memory) (s : Thread) (x : Instr) (t : ℕ) (o : Stores x) (u : Ruled) (e : u ≡ ruled s (execute x m t s)) where
+module _ (c : Code) (i : ℕ) (m : Memory) (s : Thread) (x : Instr) (t : ℕ) (o : Stores x) (u : Result Thread Refusal) (e : u ≡ ruled (execute x m t s)) where
   as_store : (v y : Thread) → execute x m t v ≡ next y → execute (Store o.mode o.a o.d) m t v ≡ next y
   as_store v y d = subst (λ (z : Instr). execute z m t v ≡ next y) o.is_store d
 
-  pub keeps_refused : (n : ℕ) → u.answer ≡ Refused n → (k : Cares) → Keeps c i m s x t (record { met = record { least = 1; second = 1 }; cares = k })
-  keeps_refused n z k =
+  pub keeps_refused : {n : Refusal} → u ≡ Err n → (k : Cares) → Keeps c i m s x t (record { met = record { least = 1; second = 1 }; cares = k })
+  keeps_refused z k =
       record {
         is_kept = λ h. absurd (omega arith);
         is_lost = λ lost s' rests rep p.
             let q = onward_inv (certified c i m) (execute x m t s') p in
             let mine = repeated x m s t o s' rests.under rep q.0 q.1 in
-            other (sym (ruled_refused s (execute x m t s) u n e z) ∙ mine.1);
+            other (sym (ruled_refused (execute x m t s) u e z) ∙ mine.1);
       }
 
-  pub keeps_done : u.answer ≡ Done → (then : Reached) → Found 0 (record { least = 1; second = 1 }) (λ y j. Meets c i m y 0 j) u.thread then → Keeps c i m s x t then
-  keeps_done z then found =
-      let does = ruled_done s (execute x m t s) u e z in
+  pub keeps_done : {y : Thread} → u ≡ Ok y → (then : Reached) → Found 0 (record { least = 1; second = 1 }) (λ y j. Meets c i m y 0 j) y then → Keeps c i m s x t then
+  keeps_done {y} z then found =
+      let does = ruled_done (execute x m t s) u e z in
       record {
-        is_kept = λ h. onward_next (certified c i m) (execute x m t s) u.thread does (⊎_elim (λ (p : then.met.least ≡ 1). absurd (omega arith)) (λ w. meets_certified c i then.met.least m u.thread w) (least_passes found.better));
+        is_kept = λ h. onward_next (certified c i m) (execute x m t s) y does (⊎_elim (λ (p : then.met.least ≡ 1). absurd (omega arith)) (λ w. meets_certified c i then.met.least m y w) (least_passes found.better));
         is_lost = λ lost s' rests rep p.
             let q = onward_inv (certified c i m) (execute x m t s') p in
             let same = rep o.mode o.a o.d o.is_store in
-            let after = store_rests m o.mode o.a o.d s s' rests.under same.0 then.cares.of rests.agreeing t m u.thread q.0 (as_store s u.thread does) (as_store s' q.0 q.1) in
+            let after = store_rests m o.mode o.a o.d s s' rests.under same.0 then.cares.of rests.agreeing t m y q.0 (as_store s y does) (as_store s' q.0 q.1) in
             found.barren q.0 after 0 (zero_sought found.better (omega arith, omega arith, λ n. omega arith) lost) (certified_meets c i m q.0 q.2);
       }

@@ -7,6 +7,7 @@ use mathlib.Core.List.{List}
 use mathlib.Core.Option.{none, some}
 use Prim.Native.Nat.{ℕ}
 use borrow.Author.Tests.{eqb-false}
+use Rattle.program.specs.declared.Refusal.{Refusal}
 use Rattle.machine.specs.Rules.{refused, next, value_of, address, execute}
 use Rattle.machine.proofs.Effects.{load_location}
 use Rattle.certify_runs.specs.Below.{Code, Operand, StoreMode, Instr, Compute, Load, Store, Branch, Fence, Memory, Thread}
@@ -44,7 +45,7 @@ pub found_none : (from : ℕ) (p : Met) (P : Thread → ℕ → Type 0) (s : Thr
 found_none from p P s k fails = record { better = same; barren = fails }
 
 -- ---- an instruction that another thread executes
-pub other : {n : ℕ} {s : Thread} → refused n ≡ next s → ⊥
+pub other : {n : Refusal} {s : Thread} → refused n ≡ next s → ⊥
 other {n} {s} e = eqb-false 0 1 refl cc
 
 pub no_thread_left : {s : Thread} → some s ≡ none → ⊥

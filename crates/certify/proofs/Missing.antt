@@ -13,12 +13,12 @@ use lib.Count.{ones}
 use lib.Dec.{T}
 use lib.ListN.{length, set, replicate, get_or-eq_default, length-set, length-replicate, get_or-replicate}
 use lib.Seq.{get_or-set_same, get_or-set_other}
+use Rattle.std.specs.Prelude.{Result, Err}
 use Rattle.program.specs.Program.{instr_at}
 use Rattle.program.specs.Counts.{stores_from}
+use Rattle.program.specs.declared.Refusal.{Refusal}
 use Rattle.machine.specs.Rules.{next, read_value, read_view, execute}
 use Rattle.machine.specs.Inner.{ruled}
-use Rattle.machine.specs.declared.RuleAnswer.TheVariants.{Refused}
-use Rattle.machine.specs.declared.Ruled.{Ruled}
 use Rattle.machine.proofs.Cases.{ruled_refused}
 use Rattle.machine.proofs.Effects.{load_location, effect, effect_time}
 use Rattle.certify_runs.specs.Below.{Code, Operand, LoadMode, StoreMode, Instr, Compute, Load, Store, Branch, Fence, Memory, Thread}
@@ -107,11 +107,11 @@ module _ (c : Code) (i : ℕ) (m : Memory) (s : Thread) (x : Instr) (q : Sought)
     unchanged fails = record { better = same; covers = covers_self p.cares.of; narrower = λ z. z; knows = known; fails = fails }
 
     -- it cannot be executed at t
-    pub went_refused : (u : Ruled) → u ≡ ruled s (execute x m t s) → (n : ℕ) → u.answer ≡ Refused n → Went c i m s x q p t p
-    went_refused u e n z =
+    pub went_refused : (u : Result Thread Refusal) → u ≡ ruled (execute x m t s) → {n : Refusal} → u ≡ Err n → Went c i m s x q p t p
+    went_refused u e z =
         unchanged (λ s' y rests like d j sought w.
         let mine = does_too x m s s' known.halting rests.under like t y d in
-        other (sym (ruled_refused s (execute x m t s) u n e z) ∙ mine.1))
+        other (sym (ruled_refused (execute x m t s) u e z) ∙ mine.1))
 
     -- too few stores are left
     crowded : Trying c m s x → stores_from c s.position < ones s.promises → Went c i m s x q p t p

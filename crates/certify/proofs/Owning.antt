@@ -11,13 +11,13 @@ use lib.Count.{ones}
 use lib.Dec.{T}
 use lib.ListN.{length-set}
 use borrow.Author.Tests.{not-true}
+use Rattle.std.specs.Prelude.{Result, Ok, Err}
 use Rattle.program.specs.Counts.{stores_from}
 use Rattle.program.proofs.Counts.{stores_fall}
+use Rattle.program.specs.declared.Refusal.{Refusal}
 use Rattle.machine.specs.State.{append, has}
 use Rattle.machine.specs.Rules.{next, value_of, address, execute, add_promise, store_message}
 use Rattle.machine.specs.Inner.{ruled, own_store}
-use Rattle.machine.specs.declared.RuleAnswer.TheVariants.{Done, Refused}
-use Rattle.machine.specs.declared.Ruled.{Ruled}
 use Rattle.machine.proofs.Cases.{ruled_done, ruled_refused}
 use Rattle.machine.proofs.Memories.{message_stays}
 use Rattle.machine.proofs.Sets.{has_positive, has_time}
@@ -77,7 +77,7 @@ module _ (c : Code) (i : ℕ) (m : Memory) (s : Thread) (x : Instr) (q : Sought)
       go (Fence how) e = no_message_of (Fence how) (λ y. refl) e
 
   -- the store has its own message
-  module _ (how : StoreMode) (a d : Operand) (is : x ≡ Store how a d) (few : m.count < 16) (u : Ruled) (e : u ≡ ruled s (own_store how a d m i s)) where
+  module _ (how : StoreMode) (a d : Operand) (is : x ≡ Store how a d) (few : m.count < 16) (u : Result Thread Refusal) (e : u ≡ ruled (own_store how a d m i s)) where
     w : Message
     w = store_message i a d s
 
@@ -88,16 +88,16 @@ module _ (c : Code) (i : ℕ) (m : Memory) (s : Thread) (x : Instr) (q : Sought)
     its_store s' j o = subst (λ (z : Instr). execute z (append m o.message) (append m o.message).count (add_promise (append m o.message) s') ≡ next o.after) is o.does
 
     -- what the thread comes to after it
-    pub owns_better : (m₁ : Memory) → m₁ ≡ append m (store_message i a d s) → u.answer ≡ Done → {p p' : Met} → Better q.from (Meets c i m₁ u.thread q.hole) p p' → Better q.from (λ j. Owns c i m s x q.hole j) p p'
+    pub owns_better : (m₁ : Memory) → m₁ ≡ append m (store_message i a d s) → {y₁ : Thread} → u ≡ Ok y₁ → {p p' : Met} → Better q.from (Meets c i m₁ y₁ q.hole) p p' → Better q.from (λ j. Owns c i m s x q.hole j) p p'
     unfolding own_store w m'
-    owns_better m₁ me z =
+    owns_better m₁ me {y₁} z =
         better_as (λ j p. record {
           message = w;
-          after = u.thread;
+          after = y₁;
           is_own = ap (message_of i s) is;
           fewer = few;
-          does = ap (λ (v : Instr). execute v m' m'.count (add_promise m' s)) is ∙ ruled_done s (own_store how a d m i s) u e z;
-          goes_on = subst (λ (y : Memory). Meets c i y u.thread q.hole j) me p;
+          does = ap (λ (v : Instr). execute v m' m'.count (add_promise m' s)) is ∙ ruled_done (own_store how a d m i s) u e z;
+          goes_on = subst (λ (y : Memory). Meets c i y y₁ q.hole j) me p;
         })
 
     -- it is noted to rest on its location
@@ -109,14 +109,14 @@ module _ (c : Code) (i : ℕ) (m : Memory) (s : Thread) (x : Instr) (q : Sought)
       promised_place s' rests = ap address (value_promised m' s a) ∙ same_place s' rests ∙ sym (ap address (value_promised m' s' a))
 
       -- a thread in which is so what it rests on has, after its own store, what the failure rests on
-      own_after : (s' : Thread) → Rests placed.of s s' → u.answer ≡ Done → (K : List ℕ) → Agreeing K s s' → (j : ℕ) (o : Owns c i m s' x q.hole j) → Rests K u.thread o.after
+      own_after : (s' : Thread) → Rests placed.of s s' → {y₁ : Thread} → u ≡ Ok y₁ → (K : List ℕ) → Agreeing K s s' → (j : ℕ) (o : Owns c i m s' x q.hole j) → Rests K y₁ o.after
       unfolding own_store w m'
-      own_after s' rests z K all j o =
-          store_rests m' how a d (add_promise m' s) (add_promise m' s') (promise_rests m' rests).under (promised_place s' rests) K all m'.count (append m o.message) u.thread o.after (ruled_done s (own_store how a d m i s) u e z) (its_store s' j o)
+      own_after s' rests {y₁} z K all j o =
+          store_rests m' how a d (add_promise m' s) (add_promise m' s') (promise_rests m' rests).under (promised_place s' rests) K all m'.count (append m o.message) y₁ o.after (ruled_done (own_store how a d m i s) u e z) (its_store s' j o)
 
       -- where no load stands ahead, the data do not count
-      owns_apart : Loadless c s.position → s.promises < 2 ^ m.count → (m₁ : Memory) → m₁ ≡ append m (store_message i a d s) → u.answer ≡ Done
-          → (then : Reached) → Found q.from q.met (λ y j. Meets c i m₁ y q.hole j) u.thread then → (k' : Cares) → Covers k'.of then.cares.of → Covers k'.of placed.of
+      owns_apart : Loadless c s.position → s.promises < 2 ^ m.count → (m₁ : Memory) → m₁ ≡ append m (store_message i a d s) → {y₁ : Thread} → u ≡ Ok y₁
+          → (then : Reached) → Found q.from q.met (λ y j. Meets c i m₁ y q.hole j) y₁ then → (k' : Cares) → Covers k'.of then.cares.of → Covers k'.of placed.of
           → Found q.from q.met (λ y j. Owns c i m y x q.hole j) s (record { met = then.met; cares = k' })
       unfolding w m'
       owns_apart loadless within m₁ me z then found k' more more' = record { better = owns_better m₁ me z found.better; barren = barren }
@@ -154,15 +154,15 @@ module _ (c : Code) (i : ℕ) (m : Memory) (s : Thread) (x : Instr) (q : Sought)
             let mine : store_message i a d s' ≡ o.message = some-injective _ _ (sym (ap (message_of i s') is) ∙ o.is_own) in
             sym (ap₂ (λ (l v : ℕ). record { location = l; value = v; thread = i }) (same_place s' rests) (same_data s' rests) ∙ mine)
 
-        pub owns_stuck : (n : ℕ) → u.answer ≡ Refused n → Found q.from q.met (λ y j. Owns c i m y x q.hole j) s (record { met = q.met; cares = placed })
+        pub owns_stuck : {n : Refusal} → u ≡ Err n → Found q.from q.met (λ y j. Owns c i m y x q.hole j) s (record { met = q.met; cares = placed })
         unfolding own_store w m'
-        owns_stuck n z =
+        owns_stuck z =
             found_none q.from q.met (λ y j. Owns c i m y x q.hole j) s placed (λ s' rests j l o.
             let its = subst (λ (v : Message). execute (Store how a d) (append m v) (append m v).count (add_promise (append m v) s') ≡ next o.after) (own_same s' rests j o) (its_store s' j o) in
             let mine = store_too m' how a d (add_promise m' s) (add_promise m' s') (promise_rests m' rests).under (promised_place s' rests) m'.count o.after (promised_data s' rests) its in
-            other (sym (ruled_refused s (own_store how a d m i s) u n e z) ∙ mine.1))
+            other (sym (ruled_refused (own_store how a d m i s) u e z) ∙ mine.1))
 
-        owns_goes : (m₁ : Memory) → m₁ ≡ append m (store_message i a d s) → u.answer ≡ Done → (then : Reached) → Found q.from q.met (λ y j. Meets c i m₁ y q.hole j) u.thread then
+        owns_goes : (m₁ : Memory) → m₁ ≡ append m (store_message i a d s) → {y₁ : Thread} → u ≡ Ok y₁ → (then : Reached) → Found q.from q.met (λ y j. Meets c i m₁ y q.hole j) y₁ then
             → (k' : Cares) → Covers k'.of then.cares.of → Covers k'.of placed.of
             → Found q.from q.met (λ y j. Owns c i m y x q.hole j) s (record { met = then.met; cares = k' })
         unfolding w m'
@@ -177,8 +177,8 @@ module _ (c : Code) (i : ℕ) (m : Memory) (s : Thread) (x : Instr) (q : Sought)
 
       -- it rests on its data only if a load may read the message
       pub owns_on : (read : Bool) → (read ≡ true → (v v' : Thread) → Agreeing placed.of v v' → Agrees 2 (value_of v d) (value_of v' d)) → (read ≡ false → Loadless c s.position)
-          → s.promises < 2 ^ m.count → (m₁ : Memory) → m₁ ≡ append m (store_message i a d s) → u.answer ≡ Done
-          → (then : Reached) → Found q.from q.met (λ y j. Meets c i m₁ y q.hole j) u.thread then → (k' : Cares) → Covers k'.of then.cares.of → Covers k'.of placed.of
+          → s.promises < 2 ^ m.count → (m₁ : Memory) → m₁ ≡ append m (store_message i a d s) → {y₁ : Thread} → u ≡ Ok y₁
+          → (then : Reached) → Found q.from q.met (λ y j. Meets c i m₁ y q.hole j) y₁ then → (k' : Cares) → Covers k'.of then.cares.of → Covers k'.of placed.of
           → Found q.from q.met (λ y j. Owns c i m y x q.hole j) s (record { met = then.met; cares = k' })
       owns_on true noted loadless within = owns_goes (noted refl)
       owns_on false noted loadless within = owns_apart (loadless refl) within

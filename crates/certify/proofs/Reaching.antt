@@ -7,14 +7,14 @@ use Prim.Native.Nat.{ℕ, ◌+◌, ◌-◌, ◌*◌, ◌≤◌, ◌<◌}
 use native.Mathlib.Decide.{ℕ_discrete}
 use native.Mathlib.Omega.{arith}
 use lib.Dec.{T, eqb, eqb→eq}
+use Rattle.std.specs.Prelude.{Result, Ok}
 use Rattle.program.specs.Program.{instr_at}
 use Rattle.program.proofs.Counts.{there}
 use Rattle.program.proofs.Tests.{eq→eqb, is_true, is_false}
+use Rattle.program.specs.declared.Refusal.{Refusal}
 use Rattle.machine.specs.State.{append, has}
 use Rattle.machine.specs.Rules.{next, value_of, address, execute, add_promise, store_message}
 use Rattle.machine.specs.Inner.{ruled, own_store}
-use Rattle.machine.specs.declared.RuleAnswer.TheVariants.{Done}
-use Rattle.machine.specs.declared.Ruled.{Ruled}
 use Rattle.machine.proofs.Cases.{ruled_done}
 use Rattle.machine.proofs.Effects.{effect, effect_time, moves}
 use Rattle.certify_runs.specs.Below.{Code, Operand, StoreMode, Instr, Store, Message, Memory, Thread}
@@ -185,9 +185,9 @@ module _ (c : Code) (m : Memory) (s : Thread) (x : Instr) (w : Trying c m s x) w
   pub further_by : (t : ℕ) (y : Thread) → execute x m t s ≡ next y → 5 * (20 - y.position) + 4 < 5 * (20 - s.position) + 1
   further_by t y e = further m t s y refl e
 
-  pub further_own : (k : StoreMode) (a d : Operand) → x ≡ Store k a d → (i : ℕ) (u : Ruled) → u ≡ ruled s (own_store k a d m i s) → u.answer ≡ Done → 5 * (20 - u.thread.position) + 4 < 5 * (20 - s.position) + 1
+  pub further_own : (k : StoreMode) (a d : Operand) → x ≡ Store k a d → (i : ℕ) (u : Result Thread Refusal) → u ≡ ruled (own_store k a d m i s) → {y : Thread} → u ≡ Ok y → 5 * (20 - y.position) + 4 < 5 * (20 - s.position) + 1
   unfolding own_store
-  further_own k a d is i u e z =
+  further_own k a d is i u e {y} z =
       let m' = append m (store_message i a d s) in
-      further m' m'.count (add_promise m' s) u.thread refl
-      (ap (λ (v : Instr). execute v m' m'.count (add_promise m' s)) is ∙ ruled_done s (own_store k a d m i s) u e z)
+      further m' m'.count (add_promise m' s) y refl
+      (ap (λ (v : Instr). execute v m' m'.count (add_promise m' s)) is ∙ ruled_done (own_store k a d m i s) u e z)

@@ -7,11 +7,11 @@ use mathlib.Core.List.{List, [], ◌∷◌}
 use Prim.Native.Nat.{ℕ, zero, suc, ◌+◌, ◌≤◌, ◌<◌}
 use native.Mathlib.Omega.{arith}
 use lib.ListN.{length}
+use Rattle.std.specs.Prelude.{Result, Ok}
+use Rattle.program.specs.declared.Refusal.{Refusal}
 use Rattle.machine.specs.State.{append}
 use Rattle.machine.specs.Rules.{next, execute, add_promise, store_message}
 use Rattle.machine.specs.Inner.{ruled, own_store}
-use Rattle.machine.specs.declared.RuleAnswer.TheVariants.{Done}
-use Rattle.machine.specs.declared.Ruled.{Ruled}
 use Rattle.machine.proofs.Cases.{ruled_done}
 use Rattle.machine.proofs.Sets.{has_positive}
 use Rattle.machine.proofs.Effects.{effect, effect_time, moves}
@@ -145,15 +145,15 @@ module _ {c : Code} {i : ℕ} {m : Memory} {s : Thread} {x : Instr} (w : Trying 
           lifted false idles is {l} d = subst (λ (u : Thread). First c i m u l) (is.1 refl) d
 
   -- ---- its own message
-  pub shows_stored : (q : Sought) (k : StoreMode) (a d : Operand) → x ≡ Store k a d → m.count < 16 → (u : Ruled) → u ≡ ruled s (own_store k a d m i s) → u.answer ≡ Done → (m' : Memory) → m' ≡ append m (store_message i a d s)
-      → (then : Reached) → Shows c i m' u.thread q then → (words : Cares) → ((l : List RunStep) → Trail then.cares.of l → length l < 16 → Trail words.of (own_message (m.count + 1) ∷ l)) → ShowsOwn c i m s x q (record { met = then.met; cares = words })
+  pub shows_stored : (q : Sought) (k : StoreMode) (a d : Operand) → x ≡ Store k a d → m.count < 16 → (u : Result Thread Refusal) → u ≡ ruled (own_store k a d m i s) → {y : Thread} → u ≡ Ok y → (m' : Memory) → m' ≡ append m (store_message i a d s)
+      → (then : Reached) → Shows c i m' y q then → (words : Cares) → ((l : List RunStep) → Trail then.cares.of l → length l < 16 → Trail words.of (own_message (m.count + 1) ∷ l)) → ShowsOwn c i m s x q (record { met = then.met; cares = words })
   unfolding own_store
-  shows_stored q k a d is few u e done m' grown then shown words writes asked z =
+  shows_stored q k a d is few u e {y} done m' grown then shown words writes asked z =
       let n = store_message i a d s in
-      let does : execute x (append m n) (append m n).count (add_promise (append m n) s) ≡ next u.thread = ap (λ (v : Instr). execute v (append m n) (append m n).count (add_promise (append m n) s)) is ∙ ruled_done s (own_store k a d m i s) u e done in
+      let does : execute x (append m n) (append m n).count (add_promise (append m n) s) ≡ next y = ap (λ (v : Instr). execute v (append m n) (append m n).count (add_promise (append m n) s)) is ∙ ruled_done (own_store k a d m i s) u e done in
       let h = shown asked z in
-      let first = subst (λ (v : Memory). First c i v u.thread h.0) grown h.1.0 in
-      record { message = n; after = u.thread; is_own = ap (message_of i s) is; fewer = few; does = does; steps = h.0; first = first; written = writes h.0 h.1.1 (run_shorter (append m n) (append m n).count (add_promise (append m n) s) u.thread refl does first) }
+      let first = subst (λ (v : Memory). First c i v y h.0) grown h.1.0 in
+      record { message = n; after = y; is_own = ap (message_of i s) is; fewer = few; does = does; steps = h.0; first = first; written = writes h.0 h.1.1 (run_shorter (append m n) (append m n).count (add_promise (append m n) s) y refl does first) }
 
   -- ---- all its tries
   module _ (q : Sought) (unkept : Unkept s x q) (p : Tried) (t : ℕ) (known : Missed c i m s x q p 0 t) (none : q ≡ certifying → p.met ≡ q.met) where

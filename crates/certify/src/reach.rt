@@ -25,7 +25,7 @@ use certify_tried::{Reached, Tried, appends, hopeless, noted, untried};
 use certify_window::idle::{idle, resumed};
 use certify_window::{earliest, following};
 use machine::promises::has;
-use machine::{Memory, RuleAnswer, Thread};
+use machine::{Memory, Thread};
 use program::{Code, Instr};
 use rules::operands::view_of;
 use rules::{execute, own_store};
@@ -250,18 +250,16 @@ fn keeps(c: Code, i: u8, m: Memory, s: Thread, x: Instr, t: u8) -> Reached
     requires { Trying c m s x × Stores x }
     ensures { Keeps c i m s x t result }
 {
-    let r = execute(x, m, t, s);
-    let a = r.answer;
-    let RuleAnswer::Done = a else {
-        return Reached {
+    match execute(x, m, t, s) {
+        Ok(y) => search_runs(c, i, m, y, Sought::certified()),
+        Err(_) => Reached {
             met: Met {
                 least: 1,
                 second: 1,
             },
             cares: Cares { of: [0; 8] },
-        };
-    };
-    search_runs(c, i, m, r.thread, Sought::certified())
+        },
+    }
 }
 
 // The instruction is executed at time t, and the thread goes on from there; p is known of the tries before. If it is idle then, it goes on with
@@ -274,22 +272,20 @@ fn try_at(c: Code, i: u8, m: Memory, s: Thread, x: Instr, t: u8, p: Tried, q: So
     ensures tried_at { TriedAt c i m s x q p t result }
     ensures shows_at { ShowsAt c i m s x q p.met t result }
 {
-    let r = execute(x, m, t, s);
-    let a = r.answer;
-    let RuleAnswer::Done = a else {
+    let Ok(y) = execute(x, m, t, s) else {
         return p;
     };
     let less = q.after(p.met);
-    if kept(r.thread, q) {
+    if kept(y, q) {
         let all = emptied(less);
         if all.ended(q.from) {
             return p.having(all, preceded(Cares { of: [0; 8] }, 0, t));
         }
         return p.having(all, p.cares);
     }
-    let apart = idle(x, m, s, t, r.thread, q.hole);
-    let y = resumed(apart, r.thread, s);
-    let then = search_runs(c, i, m, y, less);
+    let apart = idle(x, m, s, t, y, q.hole);
+    let on = resumed(apart, y, s);
+    let then = search_runs(c, i, m, on, less);
     let met = then.met;
     if met.ended(q.from) {
         return p.having(met, preceded(then.cares, 0, t));
@@ -322,16 +318,14 @@ fn own_reached(
     }
     match x {
         Instr::Store(how, a, d) => {
-            let r = own_store(how, a, d, m, i, s);
-            let answer = r.answer;
-            let RuleAnswer::Done = answer else {
+            let Ok(y) = own_store(how, a, d, m, i, s) else {
                 return Reached {
                     met: met,
                     cares: own_asks(k, a, d, true),
                 };
             };
             let w = own_message(i, a, d, s);
-            let then = search_runs(c, i, m.append(w), r.thread, q);
+            let then = search_runs(c, i, m.append(w), y, q);
             let known = then.met;
             let rests = then.cares;
             if known.ended(q.from) {

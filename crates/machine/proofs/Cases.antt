@@ -8,15 +8,18 @@ use native.Mathlib.Omega.{arith}
 use lib.Dec.{T}
 use lib.ListN.{length}
 use borrow.Author.Tests.{le-leb, eq-eqb, not-true, not-false, eqb-false}
+use Rattle.std.specs.Prelude.{Result, Ok, Err}
 use Rattle.theory_views.specs.Views.{view_at}
 use Rattle.program.specs.Program.{instr_at}
 use Rattle.program.proofs.Tests.{and_left, is_true}
 use Rattle.program.proofs.Counts.{there}
 use Rattle.program.specs.Inner.{CodeOk}
+use Rattle.program.specs.declared.Refusal.{Refusal}
+use Rattle.program.specs.declared.Refusal.TheVariants.{NoMessage, NewerMessage, ViewNotBelow}
 use Rattle.machine.specs.Below.{Code, Operand, Constant, OfRegister, LoadMode, StoreMode, Instr, Compute, Load, Store, Branch, Fence}
 use Rattle.machine.specs.State.{Message, Memory, Thread, append, has, with, with_promises}
 use Rattle.machine.specs.Rules.{Executed, refused, next, value_of, view_of, address, load_pre, readable, none_newer, read_view, load_done, load_at, promised, store_done, store_at, execute, add_promise, store_message}
-use Rattle.machine.specs.Inner.{Ruled, Done, Refused, ruled, reach, below_time, stored, own_at, own_store}
+use Rattle.machine.specs.Inner.{ruled, reach, below_time, stored, own_at, own_store}
 use Rattle.machine.proofs.Sets.{has_with, with_without}
 use Rattle.machine.proofs.Memories.{message_new}
 
@@ -29,13 +32,13 @@ reach_within c o n (Branch j a b) e = let l = o.lands n j a b e in omega arith
 reach_within c o n (Fence k) e = let l = (there c n (Fence k) e).0 in omega arith
 
 -- ---- an answer read backwards
-pub ruled_done : (s : Thread) (o : Executed) (r : Ruled) → r ≡ ruled s o → r.answer ≡ Done → o ≡ next r.thread
-ruled_done s (refused n) r e h = let q : r.answer ≡ Refused n = ap (λ (x : Ruled). x.answer) e in absurd (eqb-false 0 1 refl cc)
-ruled_done s (next s') r e h = ap (λ (x : Ruled). next x.thread) (sym e)
+pub ruled_done : (o : Executed) (u : Result Thread Refusal) → u ≡ ruled o → {s : Thread} → u ≡ Ok s → o ≡ next s
+ruled_done (refused r) u e h = absurd (eqb-false 0 1 refl cc)
+ruled_done (next s') u e {s} h = let z : s' ≡ s = cc in ap next z
 
-pub ruled_refused : (s : Thread) (o : Executed) (r : Ruled) (n : ℕ) → r ≡ ruled s o → r.answer ≡ Refused n → o ≡ refused n
-ruled_refused s (refused k) r n e h = let q : r.answer ≡ Refused k = ap (λ (x : Ruled). x.answer) e in let z : k ≡ n = cc in ap refused z
-ruled_refused s (next s') r n e h = let q : r.answer ≡ Done = ap (λ (x : Ruled). x.answer) e in absurd (eqb-false 0 1 refl cc)
+pub ruled_refused : (o : Executed) (u : Result Thread Refusal) → u ≡ ruled o → {r : Refusal} → u ≡ Err r → o ≡ refused r
+ruled_refused (refused k) u e {r} h = let z : k ≡ r = cc in ap refused z
+ruled_refused (next s) u e h = absurd (eqb-false 0 1 refl cc)
 
 -- ---- what a negated test says of the value that was tested
 pub was_false : {a b : Bool} → a ≡ b → not a ≡ true → b ≡ false
@@ -46,11 +49,11 @@ was_true {a} e h = sym e ∙ not-false a h
 
 -- ---- loads
 module _ (k : LoadMode) (r : ℕ) (m : Memory) (t l va : ℕ) (s : Thread) where
-  pub load_26 : readable m l t ≡ false → load_at k r m t l va s ≡ refused 26
+  pub load_26 : readable m l t ≡ false → load_at k r m t l va s ≡ refused NoMessage
   unfolding load_at
   load_26 e = rw e
 
-  pub load_27 : readable m l t ≡ true → none_newer m l t (max (load_pre k va s.views) (view_at s.coherence l)) ≡ false → load_at k r m t l va s ≡ refused 27
+  pub load_27 : readable m l t ≡ true → none_newer m l t (max (load_pre k va s.views) (view_at s.coherence l)) ≡ false → load_at k r m t l va s ≡ refused NewerMessage
   unfolding load_at
   load_27 e f = rw (e, f)
 
@@ -68,11 +71,11 @@ promised_in m t l v s e =
     search (and_left)
 
 module _ (k : StoreMode) (m : Memory) (t l v va vd : ℕ) (s : Thread) where
-  pub store_26 : promised m t l v s ≡ false → store_at k m t l v va vd s ≡ refused 26
+  pub store_26 : promised m t l v s ≡ false → store_at k m t l v va vd s ≡ refused NoMessage
   unfolding store_at
   store_26 e = rw e
 
-  pub store_28 : promised m t l v s ≡ true → below_time k t l va vd s ≡ false → store_at k m t l v va vd s ≡ refused 28
+  pub store_28 : promised m t l v s ≡ true → below_time k t l va vd s ≡ false → store_at k m t l v va vd s ≡ refused ViewNotBelow
   unfolding store_at below_time
   store_28 e f = rw (e, f)
 
@@ -82,7 +85,7 @@ module _ (k : StoreMode) (m : Memory) (t l v va vd : ℕ) (s : Thread) where
 
 -- ---- a store that appends its own message
 module _ (k : StoreMode) (t l va vd : ℕ) (s : Thread) where
-  pub own_28 : below_time k t l va vd s ≡ false → own_at k t l va vd s ≡ refused 28
+  pub own_28 : below_time k t l va vd s ≡ false → own_at k t l va vd s ≡ refused ViewNotBelow
   unfolding own_at
   own_28 e = rw e
 

@@ -9,6 +9,8 @@ use lib.Dec.{T, eqb, leb, ltb, eqb→eq, leb→le, ltb→lt}
 use borrow.Author.Tests.{eqb-false}
 use Rattle.theory_views.specs.Views.{view_at}
 use Rattle.program.proofs.Tests.{or_cases, and_left, and_right}
+use Rattle.program.specs.declared.Refusal.{Refusal}
+use Rattle.program.specs.declared.Refusal.TheVariants.{NoMessage, NewerMessage, ViewNotBelow}
 use Rattle.machine.specs.Below.{Operand, ComputeMode, LoadMode, StoreMode, FenceMode, Instr, Compute, Load, Store, Branch, Fence}
 use Rattle.machine.specs.State.{Memory, Thread, message_at, has}
 use Rattle.machine.specs.Rules.{Executed, next, test, value_of, view_of, view_of₂, address, compute_done, branch_by, branch_done, load_pre, readable, none_newer, read_view, load_done, load_at, store_pre, promised, store_done, store_at, fence_done, execute}
@@ -49,9 +51,9 @@ pub data Effect (m : Memory) (t : ℕ) (s : Thread) : Instr → Thread → Type 
 pub next_same : {s s' : Thread} → next s ≡ next s' → s ≡ s'
 next_same {s} {s'} e = cc
 
-test_passed : (b : Bool) (n : ℕ) (o : Executed) (s' : Thread) → test b n o ≡ next s' → T b × (o ≡ next s')
-test_passed true n o s' e = (tt, e)
-test_passed false n o s' e = absurd (eqb-false 0 1 refl cc)
+test_passed : (b : Bool) (r : Refusal) (o : Executed) (s' : Thread) → test b r o ≡ next s' → T b × (o ≡ next s')
+test_passed true r o s' e = (tt, e)
+test_passed false r o s' e = absurd (eqb-false 0 1 refl cc)
 
 promised_facts : (m : Memory) (t l v : ℕ) (s : Thread) → T (promised m t l v s) → Promised m t l v s
 unfolding promised
@@ -66,26 +68,26 @@ promised_facts m t l v s h =
 pub effect : (x : Instr) (m : Memory) (t : ℕ) (s s' : Thread) → execute x m t s ≡ next s' → Effect m t s x s'
 unfolding execute load_at store_at
 effect (Compute k r a b) m t s s' e =
-    let q = test_passed (eqb t 0) 26 _ s' e in
+    let q = test_passed (eqb t 0) NoMessage _ s' e in
     subst (Effect m t s (Compute k r a b)) (next_same q.1) (computed (eqb→eq t 0 q.0))
 effect (Load k r a b) m t s s' e =
     let l = load_location s a b in
-    let p = test_passed (readable m l t) 26 _ s' e in
-    let q = test_passed (none_newer m l t (max (load_pre_view k s a b) (view_at s.coherence l))) 27 _ s' p.1 in
+    let p = test_passed (readable m l t) NoMessage _ s' e in
+    let q = test_passed (none_newer m l t (max (load_pre_view k s a b) (view_at s.coherence l))) NewerMessage _ s' p.1 in
     subst (Effect m t s (Load k r a b)) (next_same q.1) (loaded p.0 q.0)
 effect (Store k a d) m t s s' e =
     let l = store_location s a in
     let pre = store_pre k (view_of s a) (view_of s d) s.views in
-    let p = test_passed (promised m t l (value_of s d) s) 26 _ s' e in
-    let q = test_passed (ltb pre t && ltb (view_at s.coherence l) t) 28 _ s' p.1 in
+    let p = test_passed (promised m t l (value_of s d) s) NoMessage _ s' e in
+    let q = test_passed (ltb pre t && ltb (view_at s.coherence l) t) ViewNotBelow _ s' p.1 in
     subst (Effect m t s (Store k a d)) (next_same q.1)
     (stored (promised_facts m t l (value_of s d) s p.0) (ltb→lt pre t (and_left (ltb pre t) (ltb (view_at s.coherence l) t) q.0))
     (ltb→lt (view_at s.coherence l) t (and_right (ltb pre t) (ltb (view_at s.coherence l) t) q.0)))
 effect (Branch n a b) m t s s' e =
-    let q = test_passed (eqb t 0) 26 _ s' e in
+    let q = test_passed (eqb t 0) NoMessage _ s' e in
     subst (Effect m t s (Branch n a b)) (next_same q.1) (branched (eqb→eq t 0 q.0))
 effect (Fence k) m t s s' e =
-    let q = test_passed (eqb t 0) 26 _ s' e in
+    let q = test_passed (eqb t 0) NoMessage _ s' e in
     subst (Effect m t s (Fence k)) (next_same q.1) (fenced (eqb→eq t 0 q.0))
 
 -- a branch moves on, whichever way it goes

@@ -6,6 +6,8 @@ use mathlib.Core.List.{List}
 use Prim.Native.Nat.{ℕ, max, ◌+◌}
 use lib.ListN.{get_or}
 use borrow.Author.Tests.{eqb-false}
+use Rattle.program.specs.declared.Refusal.{Refusal}
+use Rattle.program.specs.declared.Refusal.TheVariants.{NoMessage, NewerMessage}
 use Rattle.theory_views.specs.Views.{view_at}
 use Rattle.machine.specs.Below.{Operand, Constant, OfRegister, LoadMode, PlainLoad, Acquire, WeakAcquire, Load}
 use Rattle.machine.specs.State.{Memory, Register, Views, Thread, fresh_register, with_views, with_promises}
@@ -25,15 +27,15 @@ with_coherence c s = record { position = s.position; registers = s.registers; co
 
 -- a change of the state that a rule gives
 abbrev pub on_next : (Thread → Thread) → Executed → Executed
-on_next f (refused n) = refused n
+on_next f (refused r) = refused r
 on_next f (next s) = next (f s)
 
-on_test : (f : Thread → Thread) (b : Bool) (n : ℕ) (o : Executed) → on_next f (test b n o) ≡ test b n (on_next f o)
-on_test f true n o = refl
-on_test f false n o = refl
+on_test : (f : Thread → Thread) (b : Bool) (r : Refusal) (o : Executed) → on_next f (test b r o) ≡ test b r (on_next f o)
+on_test f true r o = refl
+on_test f false r o = refl
 
 -- what passes two tests
-passed : (b c : Bool) (n k : ℕ) (z x : Thread) → test b n (test c k (next z)) ≡ next x → z ≡ x
+passed : (b c : Bool) (n k : Refusal) (z x : Thread) → test b n (test c k (next z)) ≡ next x → z ≡ x
 passed true true n k z x e = cc
 passed true false n k z x e = absurd (eqb-false 0 1 refl cc)
 passed false c n k z x e = absurd (eqb-false 0 1 refl cc)
@@ -77,6 +79,6 @@ module _ (k : LoadMode) (r : ℕ) (a b : Operand) (m : Memory) (t : ℕ) (s : Th
   load_post_ignores_coherence c x y p q =
       let l = address (value_of s a + value_of s b) in
       let pre = load_pre k (view_of₂ s a b) s.views in
-      let one = passed (readable m l t) (none_newer m l t (max pre (view_at s.coherence l))) 26 27 _ x p in
-      let other = passed (readable m l t) (none_newer m l t (max pre (view_at c l))) 26 27 _ y (sym (same_operands (with_coherence c s) refl) ∙ q) in
+      let one = passed (readable m l t) (none_newer m l t (max pre (view_at s.coherence l))) NoMessage NewerMessage _ x p in
+      let other = passed (readable m l t) (none_newer m l t (max pre (view_at c l))) NoMessage NewerMessage _ y (sym (same_operands (with_coherence c s) refl) ∙ q) in
       sym (ap (with_coherence c) one) ∙ ap (with_coherence c) other

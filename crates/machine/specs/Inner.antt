@@ -1,21 +1,20 @@
--- What the functions of the rules promise each other: the answer of a rule as the code has it, a store in parts, the first promise of a set,
+-- What the functions of the rules promise each other: the answer of a rule for the code, a store in parts, the first promise of a set,
 -- sets of times.
 -- Assumes nothing.
-use Rattle.std.specs.Prelude.{◌≡◌, Bool, true, false, ◌&&◌, ℕ, max, ◌+◌, ◌%◌, ◌^◌, ◌<◌, ◌≤◌, T, eqb, leb, ltb}
+use Rattle.std.specs.Prelude.{◌≡◌, Bool, true, false, ◌&&◌, ℕ, max, ◌+◌, ◌%◌, ◌^◌, ◌<◌, ◌≤◌, T, eqb, leb, ltb, Result, Ok, Err}
 use Rattle.theory_views.specs.Views.{view_at}
 use Rattle.program.specs.WellFormed.{program_test}
+use Rattle.program.specs.declared.Refusal.{Refusal}
+use Rattle.program.specs.declared.Refusal.TheVariants.{ViewNotBelow}
 use Rattle.machine.specs.Below.{Program, Operand, StoreMode, Instr, Compute, Load, Store, Branch, Fence}
 use Rattle.machine.specs.State.{Memory, Thread, Machine, message_at, has, append, raise_coherence, with_forward, with_views}
 use Rattle.machine.specs.Rules.{Executed, refused, next, test, advance, store_pre, store_views, execute, add_promise, store_message}
 use Rattle.machine.specs.WellFormed.{machine_test}
-pub use Rattle.machine.specs.declared.RuleAnswer.{RuleAnswer}
-pub use Rattle.machine.specs.declared.RuleAnswer.TheVariants.{Done, Refused}
-pub use Rattle.machine.specs.declared.Ruled.{Ruled}
 
--- the answer of a rule that was asked of the thread s: a refused thread stays as it was
-abbrev pub ruled : Thread → Executed → Ruled
-ruled s (refused n) = record { answer = Refused n; thread = s }
-ruled s (next s') = record { answer = Done; thread = s' }
+-- the answer of a rule for the code: the thread's next state, or the refusal
+abbrev pub ruled : Executed → Result Thread Refusal
+ruled (refused r) = Err r
+ruled (next s) = Ok s
 
 -- the most that an instruction moves the position on by
 abbrev pub reach : Instr → ℕ
@@ -36,7 +35,7 @@ stored k t l va vd s = advance 1 (with_forward l t (max va vd) (with_views (stor
 
 -- a store at time t whose promise is made with it, so that 26 is no test and the promises stay
 unfoldable pub own_at : StoreMode → ℕ → ℕ → ℕ → ℕ → Thread → Executed
-own_at k t l va vd s = test (below_time k t l va vd s) 28 (next (stored k t l va vd s))
+own_at k t l va vd s = test (below_time k t l va vd s) ViewNotBelow (next (stored k t l va vd s))
 
 -- a store of thread i that was not promised before: it appends a message and fulfils that
 unfoldable pub own_store : StoreMode → Operand → Operand → Memory → ℕ → Thread → Executed

@@ -1,21 +1,23 @@
--- The rules: what executing one instruction at a time makes of a thread, or the number that refuses it.
+-- The rules: what executing one instruction at a time makes of a thread, or why it is refused.
 -- Assumes nothing.
 use Rattle.std.specs.Prelude.{Bool, true, false, not, cond, ◌&&◌, ◌||◌, ℕ, suc, max, ◌+◌, ◌-◌, ◌%◌, eqb, leb, ltb, get_or}
 use Rattle.std.specs.Int.Bits.{bit_xor}
 use Rattle.theory_views.specs.Views.{view_at}
 use Rattle.program.specs.Tests.{below}
+use Rattle.program.specs.declared.Refusal.{Refusal}
+use Rattle.program.specs.declared.Refusal.TheVariants.{NoMessage, NewerMessage, ViewNotBelow}
 use Rattle.machine.specs.Below.{Operand, Constant, OfRegister, ComputeMode, Add, Subtract, ExclusiveOr, Equal, LoadMode, PlainLoad, Acquire, WeakAcquire, StoreMode, PlainStore, Release, FenceMode, DmbSy, DmbLd, DmbSt, Isb, Instr, Compute, Load, Store, Branch, Fence}
 use Rattle.machine.specs.State.{Message, Memory, Views, Thread, fresh_register, fresh_forward, message_at, has, with, raise_r_old, raise_w_old, raise_r_new, raise_w_new, raise_cap, raise_rel, with_position, with_register, raise_coherence, with_forward, with_views, with_promises, take_out}
 
--- the answer of a rule: a refusal number, or the thread's next state
+-- the answer of a rule: a refusal, or the thread's next state
 pub data Executed : Type 0 where
-  refused : ℕ → Executed
+  refused : Refusal → Executed
   next : Thread → Executed
 
--- go on if the test passes, else refuse with a number
-abbrev pub test : Bool → ℕ → Executed → Executed
-test true n o = o
-test false n o = refused n
+-- go on if the test passes, else refuse
+abbrev pub test : Bool → Refusal → Executed → Executed
+test true r o = o
+test false r o = refused r
 
 -- ---- operands
 -- a constant is itself, a register's value is what it holds
@@ -103,8 +105,8 @@ load_done k r m t l va post s = advance 1 (with_views (load_views k va post s.vi
 unfoldable pub load_at : LoadMode → ℕ → Memory → ℕ → ℕ → ℕ → Thread → Executed
 load_at k r m t l va s =
     let pre = load_pre k va s.views in
-    test (readable m l t) 26
-    (test (none_newer m l t (max pre (view_at s.coherence l))) 27
+    test (readable m l t) NoMessage
+    (test (none_newer m l t (max pre (view_at s.coherence l))) NewerMessage
     (next (load_done k r m t l va (max pre (read_view s l t)) s)))
 
 -- ---- store at time t; l is the location, v the value, va and vd the views of address and data
@@ -134,8 +136,8 @@ store_done k t l va vd s =
 -- t is above two views: the pre-view and the coherence view of l
 unfoldable pub store_at : StoreMode → Memory → ℕ → ℕ → ℕ → ℕ → ℕ → Thread → Executed
 store_at k m t l v va vd s =
-    test (promised m t l v s) 26
-    (test (ltb (store_pre k va vd s.views) t && ltb (view_at s.coherence l) t) 28
+    test (promised m t l v s) NoMessage
+    (test (ltb (store_pre k va vd s.views) t && ltb (view_at s.coherence l) t) ViewNotBelow
     (next (store_done k t l va vd s)))
 
 -- ---- fence
@@ -151,11 +153,11 @@ fence_done k s = advance 1 (with_views (fence_views k s.views) s)
 
 -- ---- one instruction, executed at time t; only loads and stores have times other than 0
 unfoldable pub execute : Instr → Memory → ℕ → Thread → Executed
-execute (Compute k r a b) m t s = test (eqb t 0) 26 (next (compute_done k r a b s))
+execute (Compute k r a b) m t s = test (eqb t 0) NoMessage (next (compute_done k r a b s))
 execute (Load k r a b) m t s = load_at k r m t (address (value_of s a + value_of s b)) (view_of₂ s a b) s
 execute (Store k a d) m t s = store_at k m t (address (value_of s a)) (value_of s d) (view_of s a) (view_of s d) s
-execute (Branch n a b) m t s = test (eqb t 0) 26 (next (branch_done n a b s))
-execute (Fence k) m t s = test (eqb t 0) 26 (next (fence_done k s))
+execute (Branch n a b) m t s = test (eqb t 0) NoMessage (next (branch_done n a b s))
+execute (Fence k) m t s = test (eqb t 0) NoMessage (next (fence_done k s))
 
 -- ---- promise: memory has one message more, which the thread has promised; the thread is where it was
 -- the thread with the newest message of m among its promises

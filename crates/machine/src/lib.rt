@@ -1,7 +1,6 @@
 // The machine by value: messages, memory, a thread's state with its views, four threads. Times and views are bytes.
 #![tactic(auto)]
 
-pub mod answers;
 pub mod machines;
 pub mod merge;
 pub mod messages;
@@ -64,18 +63,4 @@ pub struct Thread {
 pub struct Machine {
     pub memory: Memory,
     pub threads: [Thread; 4],
-}
-
-// The answer of a rule: the instruction is executed, or the number that refuses it.
-#[derive(Clone, Copy)]
-pub enum RuleAnswer {
-    Done,
-    Refused(u8),
-}
-
-// The answer, and the thread's state after it; a refused thread is as it was.
-#[derive(Clone, Copy)]
-pub struct Ruled {
-    pub answer: RuleAnswer,
-    pub thread: Thread,
 }

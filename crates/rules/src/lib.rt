@@ -10,22 +10,21 @@ ghost use Rattle.machine.specs.Inner.{ruled, reach, own_store};
 
 use crate::operands::{address, address_of_sum, value_of, view_of, view_of_both};
 use crate::plain::{branch_done, compute_done, fence_done};
-use machine::answers::{done, refused};
-use machine::{Memory, Ruled, Thread};
-use program::{Instr, Operand, StoreMode};
+use machine::{Memory, Thread};
+use program::{Instr, Operand, Refusal, StoreMode};
 use rules_loads::load_at;
 use rules_stores::{own_at, store_at};
 
 // Only loads and stores have times other than 0.
-pub fn execute(x: Instr, m: Memory, t: u8, s: Thread) -> Ruled
+pub fn execute(x: Instr, m: Memory, t: u8, s: Thread) -> Result<Thread, Refusal>
     requires { (s.position + reach x < 256) × (m.count ≤ 16) }
-    ensures { result ≡ ruled s (execute x m t s) }
+    ensures { result ≡ ruled (execute x m t s) }
 {
     match x {
         Instr::Compute(k, r, a, b) => if t == 0 {
-            done(compute_done(k, r, a, b, s))
+            Ok(compute_done(k, r, a, b, s))
         } else {
-            refused(26, s)
+            Err(Refusal::NoMessage)
         },
         Instr::Load(k, r, a, b) => {
             let l = address_of_sum(value_of(s, a), value_of(s, b));
@@ -36,22 +35,22 @@ pub fn execute(x: Instr, m: Memory, t: u8, s: Thread) -> Ruled
             store_at(k, m, t, l, value_of(s, d), view_of(s, a), view_of(s, d), s)
         }
         Instr::Branch(n, a, b) => if t == 0 {
-            done(branch_done(n, a, b, s))
+            Ok(branch_done(n, a, b, s))
         } else {
-            refused(26, s)
+            Err(Refusal::NoMessage)
         },
         Instr::Fence(k) => if t == 0 {
-            done(fence_done(k, s))
+            Ok(fence_done(k, s))
         } else {
-            refused(26, s)
+            Err(Refusal::NoMessage)
         },
     }
 }
 
 // A store of thread i that appends its own message to m and fulfils it at once.
-pub fn own_store(k: StoreMode, a: Operand, d: Operand, m: Memory, i: u8, s: Thread) -> Ruled
+pub fn own_store(k: StoreMode, a: Operand, d: Operand, m: Memory, i: u8, s: Thread) -> Result<Thread, Refusal>
     requires { (s.position + 1 < 256) × ((m.count < 16) × (s.promises < 2 ^ m.count)) }
-    ensures { result ≡ ruled s (own_store k a d m i s) }
+    ensures { result ≡ ruled (own_store k a d m i s) }
 {
     own_at(
         k,

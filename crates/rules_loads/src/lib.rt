@@ -5,11 +5,10 @@ ghost use Rattle.std.specs.Prelude.{◌≡◌, ◌+◌, ◌<◌, ◌≤◌};
 ghost use Rattle.machine.specs.Rules.{load_pre, readable, none_newer, read_value, read_view, if_acquire, load_views, load_done, load_at};
 ghost use Rattle.machine.specs.Inner.{ruled};
 
-use machine::answers::{done, refused};
 use machine::merge::larger;
 use machine::times::{newest, up_to};
-use machine::{Memory, Ruled, Thread, Views};
-use program::LoadMode;
+use machine::{Memory, Thread, Views};
+use program::{LoadMode, Refusal};
 
 // The pre-view merges the address view and rNew, and for an acquire that is not weak Rel too.
 pub fn load_pre(k: LoadMode, va: u8, w: Views) -> u8
@@ -99,18 +98,18 @@ pub fn load_done(k: LoadMode, r: u8, m: Memory, t: u8, l: u8, va: u8, post: u8, 
 }
 
 // A load into r at time t; l is the location, va the address view.
-pub fn load_at(k: LoadMode, r: u8, m: Memory, t: u8, l: u8, va: u8, s: Thread) -> Ruled
+pub fn load_at(k: LoadMode, r: u8, m: Memory, t: u8, l: u8, va: u8, s: Thread) -> Result<Thread, Refusal>
     requires { (s.position + 1 < 256) × ((m.count ≤ 16) × (l < 16)) }
-    ensures { result ≡ ruled s (load_at k r m t l va s) }
+    ensures { result ≡ ruled (load_at k r m t l va s) }
 {
     if !readable(m, l, t) {
-        return refused(26, s);
+        return Err(Refusal::NoMessage);
     }
     let pre = load_pre(k, va, s.views);
     let span = larger(pre, s.coherence_at(l));
     if !none_newer(m, l, t, span) {
-        return refused(27, s);
+        return Err(Refusal::NewerMessage);
     }
     let post = larger(pre, read_view(s, l, t));
-    done(load_done(k, r, m, t, l, va, post, s))
+    Ok(load_done(k, r, m, t, l, va, post, s))
 }

@@ -6,11 +6,10 @@ ghost use Rattle.machine.specs.State.{has};
 ghost use Rattle.machine.specs.Rules.{store_pre, promised, if_release, store_views, store_done, store_at};
 ghost use Rattle.machine.specs.Inner.{ruled, below_time, stored, own_at};
 
-use machine::answers::{done, refused};
 use machine::merge::larger;
 use machine::promises::has;
-use machine::{Memory, Ruled, Thread, Views};
-use program::StoreMode;
+use machine::{Memory, Thread, Views};
+use program::{Refusal, StoreMode};
 
 // The pre-view merges the views of both operands, wNew and CAP, and for a release rOld and wOld too.
 pub fn store_pre(k: StoreMode, va: u8, vd: u8, w: Views) -> u8
@@ -86,26 +85,26 @@ pub fn store_done(k: StoreMode, t: u8, l: u8, va: u8, vd: u8, s: Thread) -> Thre
 }
 
 // A store at time t; l is the location, v the value, va and vd the views of address and data.
-pub fn store_at(k: StoreMode, m: Memory, t: u8, l: u8, v: u8, va: u8, vd: u8, s: Thread) -> Ruled
+pub fn store_at(k: StoreMode, m: Memory, t: u8, l: u8, v: u8, va: u8, vd: u8, s: Thread) -> Result<Thread, Refusal>
     requires { (s.position + 1 < 256) × ((m.count ≤ 16) × (l < 16)) }
-    ensures { result ≡ ruled s (store_at k m t l v va vd s) }
+    ensures { result ≡ ruled (store_at k m t l v va vd s) }
 {
     if !promised(m, t, l, v, s) {
-        return refused(26, s);
+        return Err(Refusal::NoMessage);
     }
     if !below_time(k, t, l, va, vd, s) {
-        return refused(28, s);
+        return Err(Refusal::ViewNotBelow);
     }
-    done(store_done(k, t, l, va, vd, s))
+    Ok(store_done(k, t, l, va, vd, s))
 }
 
 // A store at time t whose promise is made with it: it passes 26, and the promises stay as they are.
-pub fn own_at(k: StoreMode, t: u8, l: u8, va: u8, vd: u8, s: Thread) -> Ruled
+pub fn own_at(k: StoreMode, t: u8, l: u8, va: u8, vd: u8, s: Thread) -> Result<Thread, Refusal>
     requires { (s.position + 1 < 256) × (l < 16) }
-    ensures { result ≡ ruled s (own_at k t l va vd s) }
+    ensures { result ≡ ruled (own_at k t l va vd s) }
 {
     if !below_time(k, t, l, va, vd, s) {
-        return refused(28, s);
+        return Err(Refusal::ViewNotBelow);
     }
-    done(stored(k, t, l, va, vd, s))
+    Ok(stored(k, t, l, va, vd, s))
 }

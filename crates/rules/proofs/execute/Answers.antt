@@ -23,7 +23,6 @@ pub returns-then-t-eq0 : goal.returns-then-t-eq0
 unfolding execute
 returns-then-t-eq0 c =
     rw (
-      c.done.ensures,
       c.compute_done.ensures,
       c.in-Compute.is,
       eq-eqb _ _ c.if-t-eq0.true,
@@ -31,7 +30,7 @@ returns-then-t-eq0 c =
 
 pub returns-else-t-eq0 : goal.returns-else-t-eq0
 unfolding execute
-returns-else-t-eq0 c = rw (c.refused.ensures, c.in-Compute.is, ne_eqb _ _ c.if-t-eq0.false)
+returns-else-t-eq0 c = rw (c.in-Compute.is, ne_eqb _ _ c.if-t-eq0.false)
 
 pub returns-in-Load : goal.returns-in-Load
 unfolding execute
@@ -62,7 +61,6 @@ pub returns-then-t-eq0-2 : goal.returns-then-t-eq0-2
 unfolding execute
 returns-then-t-eq0-2 c =
     rw (
-      c.done-then-t-eq0-2.ensures,
       c.branch_done.ensures,
       c.in-Branch.is,
       eq-eqb _ _ c.if-t-eq0-2.true,
@@ -70,13 +68,12 @@ returns-then-t-eq0-2 c =
 
 pub returns-else-t-eq0-2 : goal.returns-else-t-eq0-2
 unfolding execute
-returns-else-t-eq0-2 c = rw (c.refused-else-t-eq0-2.ensures, c.in-Branch.is, ne_eqb _ _ c.if-t-eq0-2.false)
+returns-else-t-eq0-2 c = rw (c.in-Branch.is, ne_eqb _ _ c.if-t-eq0-2.false)
 
 pub returns-then-t-eq0-3 : goal.returns-then-t-eq0-3
 unfolding execute
 returns-then-t-eq0-3 c =
     rw (
-      c.done-then-t-eq0-3.ensures,
       c.fence_done.ensures,
       c.in-Fence.is,
       eq-eqb _ _ c.if-t-eq0-3.true,
@@ -84,4 +81,4 @@ returns-then-t-eq0-3 c =
 
 pub returns-else-t-eq0-3 : goal.returns-else-t-eq0-3
 unfolding execute
-returns-else-t-eq0-3 c = rw (c.refused-else-t-eq0-3.ensures, c.in-Fence.is, ne_eqb _ _ c.if-t-eq0-3.false)
+returns-else-t-eq0-3 c = rw (c.in-Fence.is, ne_eqb _ _ c.if-t-eq0-3.false)

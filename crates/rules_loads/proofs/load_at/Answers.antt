@@ -8,7 +8,7 @@ use Rattle.machine.proofs.Cases.{load_26, load_27, load_next}
 use Rattle.rules_loads.proofs.load_at.Goals as goal
 
 pub returns-then-not-readable : goal.returns-then-not-readable
-returns-then-not-readable c = rw (c.refused.ensures, load_26 _ _ _ _ _ _ _ (sym c.readable.ensures ∙ c.if-not-readable.true))
+returns-then-not-readable c = rw (load_26 _ _ _ _ _ _ _ (sym c.readable.ensures ∙ c.if-not-readable.true))
 
 pub returns-then-not-none_newer : goal.returns-then-not-none_newer
 returns-then-not-none_newer c =
@@ -19,7 +19,7 @@ returns-then-not-none_newer c =
       c.coherence_at.ensures,
       c.load_pre-pre.ensures,
     ) at c.none_newer.ensures in
-    rw (c.refused-then-not-none_newer.ensures, load_27 a.k a.r a.m a.t a.l a.va a.s r (sym e ∙ c.if-not-none_newer.true))
+    rw (load_27 a.k a.r a.m a.t a.l a.va a.s r (sym e ∙ c.if-not-none_newer.true))
 
 pub load_done-requires : goal.load_done-requires
 load_done-requires c =
@@ -37,7 +37,6 @@ returns c =
       c.load_pre-pre.ensures,
     ) at c.none_newer.ensures in
     rw (
-      c.done.ensures,
       load_next a.k a.r a.m a.t a.l a.va a.s r (sym e ∙ c.if-not-none_newer.false),
       c.load_done.ensures,
       c.larger-post.ensures,

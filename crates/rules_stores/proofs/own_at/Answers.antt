@@ -5,12 +5,11 @@ use Rattle.machine.proofs.Cases.{own_28, own_next}
 use Rattle.rules_stores.proofs.own_at.Goals as goal
 
 pub returns-then-not-below_time : goal.returns-then-not-below_time
-returns-then-not-below_time c = rw (c.refused.ensures, own_28 _ _ _ _ _ _ (sym c.below_time.ensures ∙ c.if-not-below_time.true))
+returns-then-not-below_time c = rw (own_28 _ _ _ _ _ _ (sym c.below_time.ensures ∙ c.if-not-below_time.true))
 
 pub returns : goal.returns
 returns c =
     rw (
-      c.done.ensures,
       own_next _ _ _ _ _ _ (sym c.below_time.ensures ∙ c.if-not-below_time.false),
       c.stored.ensures,
     )

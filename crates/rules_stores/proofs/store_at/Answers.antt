@@ -6,12 +6,12 @@ use Rattle.machine.proofs.Cases.{promised_in, store_26, store_28, store_next}
 use Rattle.rules_stores.proofs.store_at.Goals as goal
 
 pub returns-then-not-promised : goal.returns-then-not-promised
-returns-then-not-promised c = rw (c.refused.ensures, store_26 _ _ _ _ _ _ _ _ (sym c.promised.ensures ∙ c.if-not-promised.true))
+returns-then-not-promised c = rw (store_26 _ _ _ _ _ _ _ _ (sym c.promised.ensures ∙ c.if-not-promised.true))
 
 pub returns-then-not-below_time : goal.returns-then-not-below_time
 returns-then-not-below_time c =
     let p = sym c.promised.ensures ∙ c.if-not-promised.false in
-    rw (c.refused-then-not-below_time.ensures, store_28 _ _ _ _ _ _ _ _ p (sym c.below_time.ensures ∙ c.if-not-below_time.true))
+    rw (store_28 _ _ _ _ _ _ _ _ p (sym c.below_time.ensures ∙ c.if-not-below_time.true))
 
 pub store_done-requires : goal.store_done-requires
 store_done-requires c =
@@ -22,7 +22,6 @@ pub returns : goal.returns
 returns c =
     let p = sym c.promised.ensures ∙ c.if-not-promised.false in
     rw (
-      c.done.ensures,
       store_next _ _ _ _ _ _ _ _ p (sym c.below_time.ensures ∙ c.if-not-below_time.false),
       c.store_done.ensures,
     )

@@ -124,28 +124,28 @@ pub filled-returns-in-Fence : goal.filled-returns-in-Fence
 filled-returns-in-Fence t c =
     fill_none _ _ _ _ _ c.args.q _ (λ y. rw c.in-Fence.is)
 
-pub keeps-execute-r-requires : goal.keeps-execute-r-requires
-keeps-execute-r-requires t c =
+pub keeps-execute-requires : goal.keeps-execute-requires
+keeps-execute-requires t c =
     let w = c.requires.0 in (reach_byte _ _ _ _ w, w.ready.room)
 
-pub keeps-returns-in_default : goal.keeps-returns-in_default
-keeps-returns-in_default t c =
-    keeps_refused _ _ _ _ _ _ c.requires.1 _ c.execute-r.ensures _ c.in_default.is _
+pub keeps-returns-in-Err : goal.keeps-returns-in-Err
+keeps-returns-in-Err t c =
+    keeps_refused _ _ _ _ _ _ c.requires.1 _ c.execute.ensures c.in-Err.is _
 
 pub keeps-search_runs-requires : goal.keeps-search_runs-requires
 keeps-search_runs-requires t c =
-    let d = ruled_done _ _ _ c.execute-r.ensures c.in-Done.is in let f = further_by _ _ _ _ c.requires.0 _ _ d in (omega (arith, c.decreases), ready_after c.requires.0.ready (effect _ _ _ _ _ d))
+    let d = ruled_done _ _ c.execute.ensures c.in-Ok.is in let f = further_by _ _ _ _ c.requires.0 _ _ d in (omega (arith, c.decreases), ready_after c.requires.0.ready (effect _ _ _ _ _ d))
 
-pub keeps-returns : goal.keeps-returns
-keeps-returns t c =
-    keeps_done _ _ _ _ _ _ c.requires.1 _ c.execute-r.ensures c.in-Done.is _ (rw c.certified.ensures at c.search_runs.ensures.found)
+pub keeps-returns-in-Ok : goal.keeps-returns-in-Ok
+keeps-returns-in-Ok t c =
+    keeps_done _ _ _ _ _ _ c.requires.1 _ c.execute.ensures c.in-Ok.is _ (rw c.certified.ensures at c.search_runs.ensures.found)
 
 pub own_reached-returns-then-not-appending : goal.own_reached-returns-then-not-appending
 own_reached-returns-then-not-appending t c =
     record { found = (owns_untried _ _ _ _ _ c.args.q _ _ c.requires.1 (ap not c.if-not-appending.true), λ n u. covers_self _); shows_own = λ e z. unmet_zero c.args.q e _ refl z }
 
-pub own_reached-own_store-r-requires : goal.own_reached-own_store-r-requires
-own_reached-own_store-r-requires t c =
+pub own_reached-own_store-requires : goal.own_reached-own_store-requires
+own_reached-own_store-requires t c =
     let w = c.requires.0 in
     let h = reach_byte _ _ _ _ w in
     let l = w.ready.code_ok.short in
@@ -154,7 +154,7 @@ own_reached-own_store-r-requires t c =
 
 pub own_reached-returns-in_default : goal.own_reached-returns-in_default
 own_reached-returns-in_default t c =
-    let asked = c.own_asks.ensures in record { found = (owns_stuck _ _ _ _ _ c.args.q c.args.k _ _ _ c.in-Store.is (c.requires.1.room (c.if-not-appending.false)) _ c.own_store-r.ensures _ asked.place (asked.value refl) _ c.in_default.is, λ n u. record { agreeing = asked.besides }); shows_own = λ e z. unmet_zero c.args.q e _ refl z }
+    let asked = c.own_asks.ensures in record { found = (owns_stuck _ _ _ _ _ c.args.q c.args.k _ _ _ c.in-Store.is (c.requires.1.room (c.if-not-appending.false)) _ c.own_store.ensures _ asked.place (asked.value refl) c.in_default.is, λ n u. record { agreeing = asked.besides }); shows_own = λ e z. unmet_zero c.args.q e _ refl z }
 
 pub own_reached-append-requires : goal.own_reached-append-requires
 own_reached-append-requires t c =
@@ -163,8 +163,8 @@ own_reached-append-requires t c =
 pub own_reached-search_runs-then-requires : goal.own_reached-search_runs-then-requires
 own_reached-search_runs-then-requires t c =
     let w = c.requires.0 in
-    let f = further_own _ _ _ _ w _ _ _ c.in-Store.is _ _ c.own_store-r.ensures c.in-Done.is in
-    (omega (arith, c.decreases), rw (c.append.ensures, c.own_message-w.ensures) (ready_own _ _ _ _ _ w.ready (c.requires.1.room (c.if-not-appending.false)) (ruled_done _ _ _ c.own_store-r.ensures c.in-Done.is)))
+    let f = further_own _ _ _ _ w _ _ _ c.in-Store.is _ _ c.own_store.ensures c.in-Ok.is in
+    (omega (arith, c.decreases), rw (c.append.ensures, c.own_message-w.ensures) (ready_own _ _ _ _ _ w.ready (c.requires.1.room (c.if-not-appending.false)) (ruled_done _ _ c.own_store.ensures c.in-Ok.is)))
 
 pub own_reached-overflow_add-m : goal.own_reached-overflow_add-m
 own_reached-overflow_add-m t c =
@@ -176,7 +176,7 @@ own_reached-preceded-requires t c =
 
 pub own_reached-returns-then-ended : goal.own_reached-returns-then-ended
 own_reached-returns-then-ended t c =
-    record { found = (found_over _ _ _ _ _ (owns_better _ _ _ _ _ c.args.q c.args.k _ _ _ c.in-Store.is (c.requires.1.room (c.if-not-appending.false)) _ c.own_store-r.ensures _ (rw (c.append.ensures, c.own_message-w.ensures)) c.in-Done.is c.search_runs-then.ensures.found.better) (c.ended.ensures.0 c.if-ended.true), λ n u. absurd (c.ended.ensures.0 c.if-ended.true n u)); shows_own = (shows_stored c.requires.0 c.args.q _ _ _ c.in-Store.is (c.requires.1.room (c.if-not-appending.false)) _ c.own_store-r.ensures c.in-Done.is _ (rw (c.append.ensures, c.own_message-w.ensures)) c.search_runs-then.result c.search_runs-then.ensures.shows _ c.preceded.ensures) }
+    record { found = (found_over _ _ _ _ _ (owns_better _ _ _ _ _ c.args.q c.args.k _ _ _ c.in-Store.is (c.requires.1.room (c.if-not-appending.false)) _ c.own_store.ensures _ (rw (c.append.ensures, c.own_message-w.ensures)) c.in-Ok.is c.search_runs-then.ensures.found.better) (c.ended.ensures.0 c.if-ended.true), λ n u. absurd (c.ended.ensures.0 c.if-ended.true n u)); shows_own = (shows_stored c.requires.0 c.args.q _ _ _ c.in-Store.is (c.requires.1.room (c.if-not-appending.false)) _ c.own_store.ensures c.in-Ok.is _ (rw (c.append.ensures, c.own_message-w.ensures)) c.search_runs-then.result c.search_runs-then.ensures.shows _ c.preceded.ensures) }
 
 pub own_reached-loads_ahead-read-requires : goal.own_reached-loads_ahead-read-requires
 own_reached-loads_ahead-read-requires t c =
@@ -184,7 +184,7 @@ own_reached-loads_ahead-read-requires t c =
 
 pub own_reached-returns-else-ended : goal.own_reached-returns-else-ended
 own_reached-returns-else-ended t c =
-    let asked = c.own_asks-in-Store.ensures in record { found = (owns_on _ _ _ _ _ c.args.q c.args.k _ _ _ c.in-Store.is (c.requires.1.room (c.if-not-appending.false)) _ c.own_store-r.ensures _ asked.place _ asked.value c.loads_ahead-read.ensures c.requires.0.ready.promises_in _ (rw (c.append.ensures, c.own_message-w.ensures)) c.in-Done.is _ c.search_runs-then.ensures.found _ c.and.ensures.0 c.and.ensures.1, λ n u. covers_on c.and.ensures.1 (record { agreeing = asked.besides })); shows_own = λ e z. unmet_zero c.args.q e _ (still_unmet c.args.q e _ _ refl c.search_runs-then.ensures.found.better (c.ended.ensures.1 c.if-ended.false)) z }
+    let asked = c.own_asks-in-Store.ensures in record { found = (owns_on _ _ _ _ _ c.args.q c.args.k _ _ _ c.in-Store.is (c.requires.1.room (c.if-not-appending.false)) _ c.own_store.ensures _ asked.place _ asked.value c.loads_ahead-read.ensures c.requires.0.ready.promises_in _ (rw (c.append.ensures, c.own_message-w.ensures)) c.in-Ok.is _ c.search_runs-then.ensures.found _ c.and.ensures.0 c.and.ensures.1, λ n u. covers_on c.and.ensures.1 (record { agreeing = asked.besides })); shows_own = λ e z. unmet_zero c.args.q e _ (still_unmet c.args.q e _ _ refl c.search_runs-then.ensures.found.better (c.ended.ensures.1 c.if-ended.false)) z }
 
 pub own_reached-returns-in-Load : goal.own_reached-returns-in-Load
 own_reached-returns-in-Load t c =
@@ -340,13 +340,13 @@ pub search_runs-returns : goal.search_runs-returns
 search_runs-returns t c =
     record { found = c.walk_on.ensures.found; shows = c.walk_on.ensures.shows }
 
-pub try_at-execute-r-requires : goal.try_at-execute-r-requires
-try_at-execute-r-requires t c =
+pub try_at-execute-requires : goal.try_at-execute-requires
+try_at-execute-requires t c =
     let w = c.requires.0 in (reach_byte _ _ _ _ w, w.ready.room)
 
 pub try_at-returns-in_default : goal.try_at-returns-in_default
 try_at-returns-in_default t c =
-    let went = went_refused _ _ _ _ _ _ _ _ c.requires.1.1 _ c.execute-r.ensures _ c.in_default.is in record { tried_at = record { better = same; went = λ n u. went }; shows_at = shows_missed c.requires.0 c.args.q _ _ c.args.p (λ e unmet. unmet) }
+    let went = went_refused _ _ _ _ _ _ _ _ c.requires.1.1 _ c.execute.ensures c.in_default.is in record { tried_at = record { better = same; went = λ n u. went }; shows_at = shows_missed c.requires.0 c.args.q _ _ c.args.p (λ e unmet. unmet) }
 
 pub try_at-preceded-requires : goal.try_at-preceded-requires
 try_at-preceded-requires t c =
@@ -355,13 +355,13 @@ try_at-preceded-requires t c =
 pub try_at-returns-then-ended : goal.try_at-returns-then-ended
 try_at-returns-then-ended t c =
     record {
-      tried_at = rw c.having.ensures (record { better = (emptied_better _ _ (rw c.after-less.ensures at c.emptied-all.ensures) (_, (ruled_done _ _ _ c.execute-r.ensures c.in-Done.is), done (inl ((c.kept.ensures.0 c.if-kept.true).0, refl, (c.kept.ensures.0 c.if-kept.true).1)))); went = λ n u. absurd (c.ended.ensures.0 c.if-ended.true n u) });
-      shows_at = rw c.having.ensures (shows_emptied c.requires.0 c.args.q _ _ (record { met = c.emptied-all.result; tries = c.args.p.tries; cares = c.preceded.result; counted = c.args.p.counted; apart = c.args.p.apart }) _ (ruled_done _ _ _ c.execute-r.ensures c.in-Done.is) _ c.preceded.ensures (c.kept.ensures.0 c.if-kept.true).1 (record { count = refl; steps = tt }));
+      tried_at = rw c.having.ensures (record { better = (emptied_better _ _ (rw c.after-less.ensures at c.emptied-all.ensures) (_, (ruled_done _ _ c.execute.ensures c.in-Ok.is), done (inl ((c.kept.ensures.0 c.if-kept.true).0, refl, (c.kept.ensures.0 c.if-kept.true).1)))); went = λ n u. absurd (c.ended.ensures.0 c.if-ended.true n u) });
+      shows_at = rw c.having.ensures (shows_emptied c.requires.0 c.args.q _ _ (record { met = c.emptied-all.result; tries = c.args.p.tries; cares = c.preceded.result; counted = c.args.p.counted; apart = c.args.p.apart }) _ (ruled_done _ _ c.execute.ensures c.in-Ok.is) _ c.preceded.ensures (c.kept.ensures.0 c.if-kept.true).1 (record { count = refl; steps = tt }));
     }
 
 pub try_at-returns-then-kept : goal.try_at-returns-then-kept
 try_at-returns-then-kept t c =
-    let went = went_found _ _ _ _ _ _ _ _ c.requires.1.1 _ (ruled_done _ _ _ c.execute-r.ensures c.in-Done.is) (c.kept.ensures.0 c.if-kept.true) _ (rw c.after-less.ensures at c.emptied-all.ensures) in
+    let went = went_found _ _ _ _ _ _ _ _ c.requires.1.1 _ (ruled_done _ _ c.execute.ensures c.in-Ok.is) (c.kept.ensures.0 c.if-kept.true) _ (rw c.after-less.ensures at c.emptied-all.ensures) in
     record { tried_at = rw c.having-then-kept.ensures (record { better = went.better; went = λ n u. went }); shows_at = rw c.having-then-kept.ensures (shows_missed c.requires.0 c.args.q _ _ (record { met = c.emptied-all.result; tries = c.args.p.tries; cares = c.args.p.cares; counted = c.args.p.counted; apart = c.args.p.apart }) (λ e unmet. still_unmet c.args.q e _ _ unmet went.better (c.ended.ensures.1 c.if-ended.false))) }
 
 pub try_at-idle-apart-requires : goal.try_at-idle-apart-requires
@@ -371,9 +371,9 @@ try_at-idle-apart-requires t c =
 pub try_at-search_runs-then-requires : goal.try_at-search_runs-then-requires
 try_at-search_runs-then-requires t c =
     let w = c.requires.0 in
-    let d = ruled_done _ _ _ c.execute-r.ensures c.in-Done.is in
+    let d = ruled_done _ _ c.execute.ensures c.in-Ok.is in
     let f = further_by _ _ _ _ w _ _ d in
-    let like = resumed_same _ _ _ c.args.s c.resumed-y.ensures in
+    let like = resumed_same _ _ _ c.args.s c.resumed-on.ensures in
     let at = like.0 in
     (omega (arith, c.decreases), ready_as (ready_after w.ready (effect _ _ _ _ _ d)) like.1)
 
@@ -384,8 +384,8 @@ try_at-preceded-requires-then-ended-2 t c =
 pub try_at-returns-then-ended-2 : goal.try_at-returns-then-ended-2
 try_at-returns-then-ended-2 t c =
     record {
-      tried_at = rw c.having-then-ended-2.ensures (record { better = resumed_better _ _ _ _ _ _ _ _ c.requires.1.1 _ (ruled_done _ _ _ c.execute-r.ensures c.in-Done.is) _ c.idle-apart.ensures _ c.resumed-y.ensures (rw c.after-less.ensures at c.search_runs-then.ensures.found).better; went = λ n u. absurd (c.ended-2.ensures.0 c.if-ended-2.true n u) });
-      shows_at = rw c.having-then-ended-2.ensures (shows_resumed c.requires.0 c.args.q _ _ (record { met = c.search_runs-then.result.met; tries = c.args.p.tries; cares = c.preceded-then-ended-2.result; counted = c.args.p.counted; apart = c.args.p.apart }) _ (ruled_done _ _ _ c.execute-r.ensures c.in-Done.is) _ c.preceded-then-ended-2.ensures _ c.idle-apart.ensures _ c.resumed-y.ensures _ c.after-less.ensures c.search_runs-then.ensures.shows);
+      tried_at = rw c.having-then-ended-2.ensures (record { better = resumed_better _ _ _ _ _ _ _ _ c.requires.1.1 _ (ruled_done _ _ c.execute.ensures c.in-Ok.is) _ c.idle-apart.ensures _ c.resumed-on.ensures (rw c.after-less.ensures at c.search_runs-then.ensures.found).better; went = λ n u. absurd (c.ended-2.ensures.0 c.if-ended-2.true n u) });
+      shows_at = rw c.having-then-ended-2.ensures (shows_resumed c.requires.0 c.args.q _ _ (record { met = c.search_runs-then.result.met; tries = c.args.p.tries; cares = c.preceded-then-ended-2.result; counted = c.args.p.counted; apart = c.args.p.apart }) _ (ruled_done _ _ c.execute.ensures c.in-Ok.is) _ c.preceded-then-ended-2.ensures _ c.idle-apart.ensures _ c.resumed-on.ensures _ c.after-less.ensures c.search_runs-then.ensures.shows);
     }
 
 pub try_at-noted-requires : goal.try_at-noted-requires
@@ -394,7 +394,7 @@ try_at-noted-requires t c =
 
 pub try_at-returns : goal.try_at-returns
 try_at-returns t c =
-    let went = went_resumed _ _ _ _ _ _ _ _ c.requires.1.1 _ (ruled_done _ _ _ c.execute-r.ensures c.in-Done.is) _ c.idle-apart.ensures _ c.resumed-y.ensures _ (rw c.after-less.ensures at c.search_runs-then.ensures.found) _ c.noted.ensures in record { tried_at = record { better = went.better; went = λ n u. went }; shows_at = shows_missed c.requires.0 c.args.q _ _ c.noted.result (λ e unmet. noted_met _ _ c.requires.1.1.halting c.noted.ensures ∙ still_unmet c.args.q e _ _ unmet (rw c.after-less.ensures at c.search_runs-then.ensures.found).better (c.ended-2.ensures.1 c.if-ended-2.false)) }
+    let went = went_resumed _ _ _ _ _ _ _ _ c.requires.1.1 _ (ruled_done _ _ c.execute.ensures c.in-Ok.is) _ c.idle-apart.ensures _ c.resumed-on.ensures _ (rw c.after-less.ensures at c.search_runs-then.ensures.found) _ c.noted.ensures in record { tried_at = record { better = went.better; went = λ n u. went }; shows_at = shows_missed c.requires.0 c.args.q _ _ c.noted.result (λ e unmet. noted_met _ _ c.requires.1.1.halting c.noted.ensures ∙ still_unmet c.args.q e _ _ unmet (rw c.after-less.ensures at c.search_runs-then.ensures.found).better (c.ended-2.ensures.1 c.if-ended-2.false)) }
 
 pub walk_on-straight-w-requires : goal.walk_on-straight-w-requires
 walk_on-straight-w-requires t c =
