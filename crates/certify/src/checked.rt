@@ -2,19 +2,21 @@
 ghost use Rattle.std.specs.Prelude.{◌≡◌};
 ghost use Rattle.certify.specs.Answers.{certify};
 
-use crate::{Certification, Certified, show, unshown};
+use crate::show;
+use certify_runs::Run;
 use machine::Machine;
 use machine_form::both_formed;
-use program::Program;
+use program::{Program, Refusal};
 
-pub fn certify(p: Program, x: Machine, i: u8) -> Certification
+// The first run that shows that the thread is certified, if it is; or why it is not asked.
+pub fn certify(p: Program, x: Machine, i: u8) -> Result<Option<Run>, Refusal>
     ensures { result ≡ certify p x i }
 {
     if !both_formed(p, x) {
-        return unshown(Certified::Refused(20));
+        return Err(Refusal::NotWellFormed);
     }
     if p.threads <= i {
-        return unshown(Certified::Refused(21));
+        return Err(Refusal::NoThread);
     }
-    show(p.code_of(i), i, x.memory, x.thread_of(i))
+    Ok(show(p.code_of(i), i, x.memory, x.thread_of(i)))
 }

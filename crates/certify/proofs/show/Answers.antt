@@ -1,15 +1,14 @@
 -- `certify::show` meets its contract: where an empty promise set is met, its first run is shown.
 -- Assumes nothing.
-use mathlib.Core.Path.{◌∙◌}
 use Rattle.certify.proofs.Asked.{show_none, show_run}
 use Rattle.certify.proofs.show.Goals as goal
 
 pub search_runs-r-requires : goal.search_runs-r-requires
 search_runs-r-requires c = c.requires
 
-pub returns-then-r-ne0 : goal.returns-then-r-ne0
-returns-then-r-ne0 c = c.unshown.ensures ∙ show_none _ _ _ _ c.requires.code_ok.short _ c.certified.ensures _ c.search_runs-r.ensures.found c.if-r-ne0.true
+pub returns-else-r-eq0 : goal.returns-else-r-eq0
+returns-else-r-eq0 c = show_none _ _ _ _ c.requires.code_ok.short _ c.certified.ensures _ c.search_runs-r.ensures.found c.if-r-eq0.false
 
-pub returns : goal.returns
-returns c =
-    show_run _ _ _ _ c.requires.code_ok.short _ c.certified.ensures _ c.search_runs-r.ensures.found c.search_runs-r.ensures.shows c.if-r-ne0.false _ c.run_of.ensures
+pub returns-then-r-eq0 : goal.returns-then-r-eq0
+returns-then-r-eq0 c =
+    show_run _ _ _ _ c.requires.code_ok.short _ c.certified.ensures _ c.search_runs-r.ensures.found c.search_runs-r.ensures.shows c.if-r-eq0.true _ c.run_of.ensures
