@@ -11,6 +11,8 @@ use borrow.Author.Tests.{eqb-false}
 use Rattle.program.specs.Program.{instr_at, code_of}
 use Rattle.program.specs.WellFormed.{program_test}
 use Rattle.program.proofs.Tests.{and_left, and_right}
+use Rattle.program.specs.declared.Refusal.{Refusal}
+use Rattle.program.specs.declared.Refusal.TheVariants.{NotWellFormed, NoThread, StepKind, NoLocation, MemoryFull, NotCertified}
 use Rattle.machine.specs.State.{thread_of, append}
 use Rattle.machine.specs.Rules.{Executed, refused, next, execute, add_promise}
 use Rattle.machine.specs.WellFormed.{machine_test}
@@ -40,11 +42,11 @@ pub data Did (p : Program) (x : Machine) : Step → Machine → Type 0 where
       → T (certified (code_of p i) i (promised_memory x i l v) (promised_thread x i l v))
       → Did p x (record { kind = 1; thread = i; a = l; b = v }) (moved x i (promised_memory x i l v) (promised_thread x i l v))
 
-pub check_passed : (b : Bool) (n : ℕ) (o : Decision) (x : Machine) → check b n o ≡ accepted x → T b × (o ≡ accepted x)
+pub check_passed : (b : Bool) (n : Refusal) (o : Decision) (x : Machine) → check b n o ≡ accepted x → T b × (o ≡ accepted x)
 check_passed true n o x e = (tt, e)
 check_passed false n o x e = absurd (eqb-false 0 1 refl cc)
 
-pub not_accepted : {n : ℕ} {x : Machine} → rejected n ≡ accepted x → ⊥
+pub not_accepted : {n : Refusal} {x : Machine} → rejected n ≡ accepted x → ⊥
 not_accepted {n} {x} e = eqb-false 0 1 refl cc
 
 accepted_same : {x y : Machine} → accepted x ≡ accepted y → x ≡ y
@@ -53,7 +55,7 @@ accepted_same {x} {y} e = cc
 module _ (p : Program) (x x' : Machine) where
   settled : (i : ℕ) (m : Memory) (s : Thread) → settle p x i m s ≡ accepted x' → T (certified (code_of p i) i m s) × (moved x i m s ≡ x')
   unfolding settle
-  settled i m s e = let q = check_passed (certified (code_of p i) i m s) 29 _ x' e in (q.0, accepted_same q.1)
+  settled i m s e = let q = check_passed (certified (code_of p i) i m s) NotCertified _ x' e in (q.0, accepted_same q.1)
 
   did_rule : (i t : ℕ) (c : Instr) (o : Executed) → i < p.threads → instr_at (code_of p i) (thread_of x i).position ≡ some c
       → execute c x.memory t (thread_of x i) ≡ o → settle_rule p x i o ≡ accepted x' → Did p x (record { kind = 0; thread = i; a = t; b = 0 }) x'
@@ -70,8 +72,8 @@ module _ (p : Program) (x x' : Machine) where
   did_promise : (i l v : ℕ) → i < p.threads → v < 256 → promise_step p x i l v ≡ accepted x' → Did p x (record { kind = 1; thread = i; a = l; b = v }) x'
   unfolding promise_step
   did_promise i l v h b e =
-      let r = check_passed (leb l 15) 23 _ x' e in
-      let q = check_passed (ltb x.memory.count 16) 24 _ x' r.1 in
+      let r = check_passed (leb l 15) NoLocation _ x' e in
+      let q = check_passed (ltb x.memory.count 16) MemoryFull _ x' r.1 in
       let w = settled i (promised_memory x i l v) (promised_thread x i l v) q.1 in
       let low = leb→le l 15 r.0 in
       let l16 : l < 16 = omega arith in
@@ -80,12 +82,12 @@ module _ (p : Program) (x x' : Machine) where
   did_kind : (k : Step) (n : ℕ) → n ≡ k.kind → k.thread < p.threads → kind_step p x k n ≡ accepted x' → Did p x k x'
   unfolding kind_step execute_step
   did_kind k zero z h e =
-      let q = check_passed (eqb k.b 0) 22 _ x' e in
+      let q = check_passed (eqb k.b 0) StepKind _ x' e in
       let d = did_instr k.thread k.a (instr_at (code_of p k.thread) (thread_of x k.thread).position) h refl q.1 in
       let b0 = eqb→eq k.b 0 q.0 in
       subst (λ (y : Step). Did p x y x') (λ i. record { kind = z i; thread = k.thread; a = k.a; b = sym b0 i }) d
   did_kind k (suc n) z h e =
-      let q = check_passed (eqb n 0 && leb k.b 255) 22 _ x' e in
+      let q = check_passed (eqb n 0 && leb k.b 255) StepKind _ x' e in
       let n0 = eqb→eq n 0 (and_left (eqb n 0) (leb k.b 255) q.0) in
       let byte = leb→le k.b 255 (and_right (eqb n 0) (leb k.b 255) q.0) in
       let b256 : k.b < 256 = omega arith in
@@ -97,8 +99,8 @@ module _ (p : Program) (x x' : Machine) where
   pub did : (k : Step) → step p x k ≡ accepted x' → T (program_test p) × T (machine_test p x) × Did p x k x'
   unfolding step rule_step
   did k e =
-      let f = check_passed (program_test p && machine_test p x) 20 _ x' e in
-      let q = check_passed (ltb k.thread p.threads) 21 _ x' f.1 in (
+      let f = check_passed (program_test p && machine_test p x) NotWellFormed _ x' e in
+      let q = check_passed (ltb k.thread p.threads) NoThread _ x' f.1 in (
         and_left (program_test p) (machine_test p x) f.0,
         and_right (program_test p) (machine_test p x) f.0,
         did_kind k k.kind refl (ltb→lt k.thread p.threads q.0) q.1,

@@ -16,6 +16,8 @@ use Rattle.program.specs.Program.{instr_at, code_of}
 use Rattle.program.specs.WellFormed.{program_test}
 use Rattle.program.proofs.Tests.{and_left, and_right}
 use Rattle.program.proofs.Formed.{ProgramOk, program_ok}
+use Rattle.program.specs.declared.Refusal.{Refusal}
+use Rattle.program.specs.declared.Refusal.TheVariants.{NotWellFormed, NoThread, StepKind, NoLocation, MemoryFull, NoMessage, NewerMessage, ViewNotBelow}
 use Rattle.machine.specs.State.{fresh_thread, fresh, thread_of, message_at, append, has}
 use Rattle.machine.specs.Rules.{Executed, refused, next, test, value_of, view_of, store_pre, address, readable, none_newer, promised, load_at, store_at, execute, add_promise}
 use Rattle.machine.specs.WellFormed.{machine_test}
@@ -145,37 +147,37 @@ backed p (on {x = x} k y r e) =
     backed_did p x f.0 f.1 (backed p r) (did p x y k e).2 ((machine_iff p f.0.few_threads y).0 (kept p x y k e))
 
 -- ---- refusal 28, read backwards
-rule_later : (b : Bool) (n : ℕ) (o : Executed) → test b n o ≡ refused 28 → (n ≡ 28 → ⊥) → T b × (o ≡ refused 28)
+rule_later : (b : Bool) (n : Refusal) (o : Executed) → test b n o ≡ refused ViewNotBelow → (n ≡ ViewNotBelow → ⊥) → T b × (o ≡ refused ViewNotBelow)
 rule_later true n o e d = (tt, e)
 rule_later false n o e d = absurd (d (cc))
 
-not_done : {s : Thread} {n : ℕ} → next s ≡ refused n → ⊥
+not_done : {s : Thread} {n : Refusal} → next s ≡ refused n → ⊥
 not_done {s} {n} e = eqb-false 0 1 refl cc
 
-not_below : (pre coh t : ℕ) (s : Thread) → test (ltb pre t && ltb coh t) 28 (next s) ≡ refused 28 → (t ≤ pre) ⊎ (t ≤ coh)
+not_below : (pre coh t : ℕ) (s : Thread) → test (ltb pre t && ltb coh t) ViewNotBelow (next s) ≡ refused ViewNotBelow → (t ≤ pre) ⊎ (t ≤ coh)
 not_below pre coh t s h = go (ltb pre t) refl (ltb coh t) refl h
   where
-    go : (a : Bool) → ltb pre t ≡ a → (b : Bool) → ltb coh t ≡ b → test (a && b) 28 (next s) ≡ refused 28 → (t ≤ pre) ⊎ (t ≤ coh)
+    go : (a : Bool) → ltb pre t ≡ a → (b : Bool) → ltb coh t ≡ b → test (a && b) ViewNotBelow (next s) ≡ refused ViewNotBelow → (t ≤ pre) ⊎ (t ≤ coh)
     go true e true f h = absurd (not_done h)
     go true e false f h = inr (ltb-false coh t f)
     go false e b f h = inl (ltb-false pre t e)
 
-late : (c : Instr) (m : Memory) (t : ℕ) (s : Thread) → execute c m t s ≡ refused 28 → Late (message_at m t) t s c
+late : (c : Instr) (m : Memory) (t : ℕ) (s : Thread) → execute c m t s ≡ refused ViewNotBelow → Late (message_at m t) t s c
 unfolding execute load_at store_at promised
-late (Compute k r a b) m t s e = absurd (not_done (rule_later (eqb t 0) 26 _ e (λ d. omega arith)).1)
+late (Compute k r a b) m t s e = absurd (not_done (rule_later (eqb t 0) NoMessage _ e (λ d. eqb-false 0 1 refl cc)).1)
 late (Load k r a b) m t s e =
     let l = load_location s a b in
-    let q = (rule_later (readable m l t) 26 _ e (λ d. omega arith)).1 in
-    absurd (not_done (rule_later (none_newer m l t (max (load_pre_view k s a b) (view_at s.coherence l))) 27 _ q (λ d. omega arith)).1)
+    let q = (rule_later (readable m l t) NoMessage _ e (λ d. eqb-false 0 1 refl cc)).1 in
+    absurd (not_done (rule_later (none_newer m l t (max (load_pre_view k s a b) (view_at s.coherence l))) NewerMessage _ q (λ d. eqb-false 0 1 refl cc)).1)
 late (Store k a d) m t s e =
     let l = store_location s a in
-    let q = rule_later (promised m t l (value_of s d) s) 26 _ e (λ d. omega arith) in
+    let q = rule_later (promised m t l (value_of s d) s) NoMessage _ e (λ d. eqb-false 0 1 refl cc) in
     let h = q.0 in
     let out : T (has s.promises t) = search (and_left, and_right) in
     let place : T (eqb (message_at m t).location l) = search (and_left, and_right) in
     (out, eqb→eq _ _ place, not_below (store_pre k (view_of s a) (view_of s d) s.views) (view_at s.coherence l) t _ q.1)
-late (Branch n a b) m t s e = absurd (not_done (rule_later (eqb t 0) 26 _ e (λ d. omega arith)).1)
-late (Fence k) m t s e = absurd (not_done (rule_later (eqb t 0) 26 _ e (λ d. omega arith)).1)
+late (Branch n a b) m t s e = absurd (not_done (rule_later (eqb t 0) NoMessage _ e (λ d. eqb-false 0 1 refl cc)).1)
+late (Fence k) m t s e = absurd (not_done (rule_later (eqb t 0) NoMessage _ e (λ d. eqb-false 0 1 refl cc)).1)
 
 -- the step was an execution, and its rule refused it
 record Refused28 (p : Program) (x : Machine) (k : Step) : Type 0 where
@@ -183,39 +185,39 @@ record Refused28 (p : Program) (x : Machine) (k : Step) : Type 0 where
   in_program : k.thread < p.threads
   instr : Instr
   at : instr_at (code_of p k.thread) (thread_of x k.thread).position ≡ some instr
-  by_rule : execute instr x.memory k.a (thread_of x k.thread) ≡ refused 28
+  by_rule : execute instr x.memory k.a (thread_of x k.thread) ≡ refused ViewNotBelow
 
 module _ (p : Program) (x : Machine) (k : Step) (formed : T (program_test p) × T (machine_test p x)) (h : k.thread < p.threads) where
   refused_rule : (c : Instr) (o : Executed) → instr_at (code_of p k.thread) (thread_of x k.thread).position ≡ some c
-      → execute c x.memory k.a (thread_of x k.thread) ≡ o → settle_rule p x k.thread o ≡ rejected 28 → Refused28 p x k
-  refused_rule c (refused n) g f e = let z : n ≡ 28 = cc in record { formed = formed; in_program = h; instr = c; at = g; by_rule = f ∙ ap refused z }
-  refused_rule c (next s) g f e = absurd (not_settled p x k.thread x.memory s 28 (λ d. omega arith) e)
+      → execute c x.memory k.a (thread_of x k.thread) ≡ o → settle_rule p x k.thread o ≡ rejected ViewNotBelow → Refused28 p x k
+  refused_rule c (refused n) g f e = let z : n ≡ ViewNotBelow = cc in record { formed = formed; in_program = h; instr = c; at = g; by_rule = f ∙ ap refused z }
+  refused_rule c (next s) g f e = absurd (not_settled p x k.thread x.memory s ViewNotBelow (λ d. eqb-false 0 1 refl cc) e)
 
-  refused_instr : (o : Option Instr) → instr_at (code_of p k.thread) (thread_of x k.thread).position ≡ o → execute_instr p x k.thread k.a o ≡ rejected 28
+  refused_instr : (o : Option Instr) → instr_at (code_of p k.thread) (thread_of x k.thread).position ≡ o → execute_instr p x k.thread k.a o ≡ rejected ViewNotBelow
       → Refused28 p x k
-  refused_instr none g e = absurd (let z : ◌≡◌ {A = ℕ} 25 28 = cc in omega arith)
+  refused_instr none g e = absurd (eqb-false 0 1 refl cc)
   refused_instr (some c) g e = refused_rule c (execute c x.memory k.a (thread_of x k.thread)) g refl e
 
-  refused_kind : (n : ℕ) → kind_step p x k n ≡ rejected 28 → Refused28 p x k
+  refused_kind : (n : ℕ) → kind_step p x k n ≡ rejected ViewNotBelow → Refused28 p x k
   unfolding kind_step execute_step promise_step
   refused_kind zero e =
-      refused_instr (instr_at (code_of p k.thread) (thread_of x k.thread).position) refl (refused_later (eqb k.b 0) 22 28 _ e (λ d. omega arith)).1
+      refused_instr (instr_at (code_of p k.thread) (thread_of x k.thread).position) refl (refused_later (eqb k.b 0) StepKind ViewNotBelow _ e (λ d. eqb-false 0 1 refl cc)).1
   refused_kind (suc n) e =
       let i = k.thread in
-      let a = refused_later (eqb n 0 && leb k.b 255) 22 28 _ e (λ d. omega arith) in
-      let b = refused_later (leb k.a 15) 23 28 _ a.1 (λ d. omega arith) in
-      let c = refused_later (ltb x.memory.count 16) 24 28 _ b.1 (λ d. omega arith) in
-      absurd (not_settled p x i (promised_memory x i k.a k.b) (promised_thread x i k.a k.b) 28 (λ d. omega arith) c.1)
+      let a = refused_later (eqb n 0 && leb k.b 255) StepKind ViewNotBelow _ e (λ d. eqb-false 0 1 refl cc) in
+      let b = refused_later (leb k.a 15) NoLocation ViewNotBelow _ a.1 (λ d. eqb-false 0 1 refl cc) in
+      let c = refused_later (ltb x.memory.count 16) MemoryFull ViewNotBelow _ b.1 (λ d. eqb-false 0 1 refl cc) in
+      absurd (not_settled p x i (promised_memory x i k.a k.b) (promised_thread x i k.a k.b) ViewNotBelow (λ d. eqb-false 0 1 refl cc) c.1)
 
-refused_28 : (p : Program) (x : Machine) (k : Step) → step p x k ≡ rejected 28 → Refused28 p x k
+refused_28 : (p : Program) (x : Machine) (k : Step) → step p x k ≡ rejected ViewNotBelow → Refused28 p x k
 unfolding step rule_step
 refused_28 p x k e =
-    let a = refused_later (program_test p && machine_test p x) 20 28 _ e (λ d. omega arith) in
-    let b = refused_later (ltb k.thread p.threads) 21 28 _ a.1 (λ d. omega arith) in
+    let a = refused_later (program_test p && machine_test p x) NotWellFormed ViewNotBelow _ e (λ d. eqb-false 0 1 refl cc) in
+    let b = refused_later (ltb k.thread p.threads) NoThread ViewNotBelow _ a.1 (λ d. eqb-false 0 1 refl cc) in
     refused_kind p x k (and_left (program_test p) (machine_test p x) a.0, and_right (program_test p) (machine_test p x) a.0) (ltb→lt k.thread p.threads b.0) k.kind b.1
 
 -- IN TIME: on a machine that is reached from the fresh one no step is refused with 28
-pub in_time : (p : Program) {x : Machine} → Reached p x → (k : Step) → step p x k ≡ rejected 28 → ⊥
+pub in_time : (p : Program) {x : Machine} → Reached p x → (k : Step) → step p x k ≡ rejected ViewNotBelow → ⊥
 in_time p {x} r k e =
     let f = refused_28 p x k e in
     let i = k.thread in

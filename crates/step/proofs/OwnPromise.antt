@@ -15,6 +15,8 @@ use Rattle.program.specs.Program.{instr_at, code_of}
 use Rattle.program.specs.WellFormed.{program_test}
 use Rattle.program.proofs.Tests.{and_both}
 use Rattle.program.proofs.Formed.{program_ok}
+use Rattle.program.specs.declared.Refusal.{Refusal}
+use Rattle.program.specs.declared.Refusal.TheVariants.{NotWellFormed, NoThread, NoMessage, NewerMessage, NotCertified}
 use Rattle.machine.specs.State.{fresh_forward, fresh_thread, thread_of, has}
 use Rattle.machine.specs.Rules.{Executed, next, test, view_of₂, readable, none_newer, read_view, load_done, load_at, execute}
 use Rattle.machine.specs.WellFormed.{machine_test}
@@ -73,15 +75,15 @@ at_least t u v n = go (eqb t u) refl
     go true e = absurd (n (sym (eqb→eq t u (subst T (sym e) tt))))
     go false e = omega arith
 
-pub check_no : (b : Bool) (n : ℕ) (o : Decision) → (T b → ⊥) → check b n o ≡ rejected n
+pub check_no : (b : Bool) (n : Refusal) (o : Decision) → (T b → ⊥) → check b n o ≡ rejected n
 check_no true n o h = absurd (h tt)
 check_no false n o h = refl
 
-pub check_yes : (b : Bool) (n : ℕ) (o : Decision) → T b → check b n o ≡ o
+pub check_yes : (b : Bool) (n : Refusal) (o : Decision) → T b → check b n o ≡ o
 check_yes true n o h = refl
 check_yes false n o h = absurd h
 
-test_yes : (b : Bool) (n : ℕ) (o : Executed) → T b → test b n o ≡ o
+test_yes : (b : Bool) (n : Refusal) (o : Executed) → T b → test b n o ≡ o
 test_yes true n o h = refl
 test_yes false n o h = absurd h
 
@@ -101,7 +103,7 @@ module _ (p : Program) {x : Machine} (r : Reached p x) (formed : T (program_test
   pub own_promise : i < p.threads → instr_at (code_of p i) (thread_of x i).position ≡ some (Load k reg a b) → 0 < t → T (has (thread_of x i).promises t)
       → T (readable x.memory (load_location (thread_of x i) a b) t)
       → T (none_newer x.memory (load_location (thread_of x i) a b) t (max (load_pre_view k (thread_of x i) a b) (view_at (thread_of x i).coherence (load_location (thread_of x i) a b))))
-      → step p x (execution i t) ≡ rejected 29
+      → step p x (execution i t) ≡ rejected NotCertified
   unfolding step rule_step kind_step execute_step settle execute load_at
   own_promise h g late out p26 p27 =
       let s = thread_of x i in
@@ -111,8 +113,8 @@ module _ (p : Program) {x : Machine} (r : Reached p x) (formed : T (program_test
       let po = program_ok p formed.0 in
       let mo = (machine_iff p po.few_threads x).0 formed.1 in
       let d = load_dead m s (mo.states i h).locations (quiet p r i) k reg t l (view_of₂ s a b) (load_pre_view k s a b) (omega arith) late out p26 in
-      check_yes (program_test p && machine_test p x) 20 _ (and_both (program_test p) (machine_test p x) formed.0 formed.1)
-      ∙ check_yes (ltb i p.threads) 21 (execute_instr p x i t (instr_at (code_of p i) s.position)) (lt→ltb i p.threads h)
+      check_yes (program_test p && machine_test p x) NotWellFormed _ (and_both (program_test p) (machine_test p x) formed.0 formed.1)
+      ∙ check_yes (ltb i p.threads) NoThread (execute_instr p x i t (instr_at (code_of p i) s.position)) (lt→ltb i p.threads h)
       ∙ ap (execute_instr p x i t) g
-      ∙ ap (settle_rule p x i) (test_yes (readable m l t) 26 _ p26 ∙ test_yes (none_newer m l t (max (load_pre_view k s a b) (view_at s.coherence l))) 27 (next s') p27)
-      ∙ check_no (certified (code_of p i) i m s') 29 (accepted (moved x i m s')) (dead_run (code_of p i) i t m s' d)
+      ∙ ap (settle_rule p x i) (test_yes (readable m l t) NoMessage _ p26 ∙ test_yes (none_newer m l t (max (load_pre_view k s a b) (view_at s.coherence l))) NewerMessage (next s') p27)
+      ∙ check_no (certified (code_of p i) i m s') NotCertified (accepted (moved x i m s')) (dead_run (code_of p i) i t m s' d)

@@ -16,6 +16,8 @@ use Rattle.program.specs.WellFormed.{program_test}
 use Rattle.program.proofs.Tests.{and_left}
 use Rattle.program.proofs.Counts.{sum_same, sum_one}
 use Rattle.program.proofs.Formed.{ProgramOk, program_ok}
+use Rattle.program.specs.declared.Refusal.{Refusal}
+use Rattle.program.specs.declared.Refusal.TheVariants.{NotWellFormed, NoThread, StepKind, NoLocation, MemoryFull, NotCertified}
 use Rattle.machine.specs.State.{fresh_thread, fresh, thread_of, append, with, with_promises}
 use Rattle.machine.specs.Rules.{add_promise}
 use Rattle.machine.specs.WellFormed.{machine_test}
@@ -155,30 +157,30 @@ module _ (p : Program) (formed : T (program_test p)) {x : Machine} (r : Reached 
       )
 
 -- ---- refusal 24
-pub refused_later : (b : Bool) (n m : ℕ) (o : Decision) → check b n o ≡ rejected m → (n ≡ m → ⊥) → T b × (o ≡ rejected m)
+pub refused_later : (b : Bool) (n m : Refusal) (o : Decision) → check b n o ≡ rejected m → (n ≡ m → ⊥) → T b × (o ≡ rejected m)
 refused_later true n m o e d = (tt, e)
 refused_later false n m o e d = absurd (d (cc))
 
-pub not_settled : (p : Program) (x : Machine) (i : ℕ) (m : Memory) (s : Thread) (n : ℕ) → (29 ≡ n → ⊥) → settle p x i m s ≡ rejected n → ⊥
+pub not_settled : (p : Program) (x : Machine) (i : ℕ) (m : Memory) (s : Thread) (n : Refusal) → (NotCertified ≡ n → ⊥) → settle p x i m s ≡ rejected n → ⊥
 unfolding settle
-not_settled p x i m s n d e = let q = (refused_later (certified (code_of p i) i m s) 29 n _ e d).1 in eqb-false 0 1 refl cc
+not_settled p x i m s n d e = let q = (refused_later (certified (code_of p i) i m s) NotCertified n _ e d).1 in eqb-false 0 1 refl cc
 
-full : (b : Bool) (o : Decision) → check b 24 o ≡ rejected 24 → (o ≡ rejected 24 → ⊥) → T b → ⊥
+full : (b : Bool) (o : Decision) → check b MemoryFull o ≡ rejected MemoryFull → (o ≡ rejected MemoryFull → ⊥) → T b → ⊥
 full true o e n t = n e
 full false o e n t = t
 
-refused_24 : (p : Program) (x : Machine) (i l v : ℕ) → step p x (promise i l v) ≡ rejected 24 → T (program_test p) × (i < p.threads) × (16 ≤ x.memory.count)
+refused_24 : (p : Program) (x : Machine) (i l v : ℕ) → step p x (promise i l v) ≡ rejected MemoryFull → T (program_test p) × (i < p.threads) × (16 ≤ x.memory.count)
 unfolding step rule_step kind_step promise_step
 refused_24 p x i l v e =
-    let a = refused_later (program_test p && machine_test p x) 20 24 _ e (λ d. omega arith) in
-    let b = refused_later (ltb i p.threads) 21 24 _ a.1 (λ d. omega arith) in
-    let c = refused_later (eqb 0 0 && leb v 255) 22 24 _ b.1 (λ d. omega arith) in
-    let d = refused_later (leb l 15) 23 24 _ c.1 (λ q. omega arith) in
-    let f = full (ltb x.memory.count 16) _ d.1 (not_settled p x i (promised_memory x i l v) (promised_thread x i l v) 24 (λ q. omega arith)) in
+    let a = refused_later (program_test p && machine_test p x) NotWellFormed MemoryFull _ e (λ d. eqb-false 0 1 refl cc) in
+    let b = refused_later (ltb i p.threads) NoThread MemoryFull _ a.1 (λ d. eqb-false 0 1 refl cc) in
+    let c = refused_later (eqb 0 0 && leb v 255) StepKind MemoryFull _ b.1 (λ d. eqb-false 0 1 refl cc) in
+    let d = refused_later (leb l 15) NoLocation MemoryFull _ c.1 (λ q. eqb-false 0 1 refl cc) in
+    let f = full (ltb x.memory.count 16) _ d.1 (not_settled p x i (promised_memory x i l v) (promised_thread x i l v) MemoryFull (λ q. eqb-false 0 1 refl cc)) in
     (and_left (program_test p) (machine_test p x) a.0, ltb→lt i p.threads b.0, nltb→le x.memory.count 16 (not_T (ltb x.memory.count 16) f))
 
 -- ROOM: after steps from the fresh machine, a promise that 24 refuses could not be certified either, on any memory, with the limit of 16 messages or without
-pub room : (p : Program) {x : Machine} → Reached p x → (i l v : ℕ) → step p x (promise i l v) ≡ rejected 24
+pub room : (p : Program) {x : Machine} → Reached p x → (i l v : ℕ) → step p x (promise i l v) ≡ rejected MemoryFull
     → {Room : Memory → Type 0} (m : Memory) (s : Thread) → s.position ≡ (thread_of x i).position → outstanding s ≡ suc (outstanding (thread_of x i)) → Run Room (code_of p i) i m s → ⊥
 room p {x} r i l v e =
     let q = refused_24 p x i l v e in

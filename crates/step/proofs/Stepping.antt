@@ -9,15 +9,16 @@ use native.Mathlib.Omega.{arith}
 use lib.Dec.{T, eqb, leb, ltb, eqb→eq, ltb→lt}
 use lib.ListN.{set}
 use borrow.Author.Tests.{lt-ltb, le-ltb, le-leb, lt-leb, eq-eqb, ne_eqb}
+use Rattle.std.specs.Prelude.{Result, Ok, Err}
 use Rattle.program.specs.Program.{instr_at, code_of}
 use Rattle.program.specs.WellFormed.{program_test}
 use Rattle.program.proofs.Tests.{is_true}
+use Rattle.program.specs.declared.Refusal.{Refusal}
+use Rattle.program.specs.declared.Refusal.TheVariants.{NotWellFormed, NoThread, StepKind, NoLocation, MemoryFull, AtEnd, NotCertified}
 use Rattle.machine.specs.State.{thread_of, append, with, with_promises}
 use Rattle.machine.specs.Rules.{execute, add_promise}
 use Rattle.machine.specs.WellFormed.{machine_test}
 use Rattle.machine.specs.Inner.{Formed, ruled, reach}
-use Rattle.machine.specs.declared.RuleAnswer.TheVariants as rule
-use Rattle.machine.specs.declared.Ruled.{Ruled}
 use Rattle.machine.proofs.Cases.{reach_within, ruled_done, ruled_refused}
 use Rattle.machine.proofs.Effects.{effect}
 use Rattle.certify_runs.specs.Certify.{certified}
@@ -27,17 +28,9 @@ use Rattle.certify_runs.specs.Inner.{Ready}
 use Rattle.certify_runs.proofs.Ready.{ready_here, ready_after}
 use Rattle.certify_runs.specs.Below.{Code, Program, Instr, Message, Memory, Thread, Machine}
 use Rattle.step.specs.Step.{Step, rejected, accepted, settle, settle_rule, execute_instr, execute_step, promise_step, kind_step, rule_step, step}
-use Rattle.step.specs.Answers.{Taken, Refused, Stepped, stepped}
-use Rattle.step.specs.Inner.{Moved, promised_by, memory_after, Remembers, placed, decision, Here, Settles, Executes, Promises, PromisesKept, Moves}
+use Rattle.step.specs.Answers.{stepped}
+use Rattle.step.specs.Inner.{promised_by, memory_after, Remembers, decision, Here, Settles, Executes, Promises, PromisesKept, Moves}
 use Rattle.step.proofs.Backwards.{check_passed}
-
--- the answer with which nothing moves
-abbrev stays : ℕ → Thread → Moved
-stays n s = record { answer = Refused n; thread = s }
-
--- the answer with which the thread becomes s
-abbrev pub goes : Thread → Moved
-goes s = record { answer = Taken; thread = s }
 
 -- ---- what a thread that is ready gives
 module _ (c : Code) (m : Memory) (s : Thread) (o : Ready c m s) where
@@ -49,8 +42,8 @@ module _ (c : Code) (m : Memory) (s : Thread) (o : Ready c m s) where
   reach_small y n g = let k = reach_within c o.code_ok n y g in let h = o.code_ok.short in omega arith
 
   -- after an executed instruction the thread is ready again
-  pub ready_executed : (y : Instr) (t : ℕ) (r : Ruled) → r ≡ ruled s (execute y m t s) → r.answer ≡ rule.Done → Ready c m r.thread
-  ready_executed y t r e d = ready_after o (effect y m t s r.thread (ruled_done s (execute y m t s) r e d))
+  pub ready_executed : (y : Instr) (t : ℕ) (r : Result Thread Refusal) → r ≡ ruled (execute y m t s) → {s' : Thread} → r ≡ Ok s' → Ready c m s'
+  ready_executed y t r e {s'} d = ready_after o (effect y m t s s' (ruled_done (execute y m t s) r e d))
 
 -- ---- certified or not
 -- a thread without a promise is
@@ -61,85 +54,84 @@ module _ (c : Code) (i : ℕ) (m : Memory) (s : Thread) (b : Bool) (d : b ≡ ce
   the_test : (p : Program) → code_of p i ≡ c → certified (code_of p i) i m s ≡ b
   the_test p e = ap (λ (y : Code). certified y i m s) e ∙ sym d
 
-  pub settle_yes : b ≡ true → (r : Moved) → r ≡ goes s → Settles c i m s r
+  pub settle_yes : b ≡ true → Settles c i m s (Ok s)
   unfolding settle
-  settle_yes q r z p x e = rw (the_test p e ∙ q, z)
+  settle_yes q p x e = rw (the_test p e ∙ q)
 
-  pub settle_no : b ≡ false → (r : Moved) → r ≡ stays 29 s → Settles c i m s r
+  pub settle_no : b ≡ false → Settles c i m s (Err NotCertified)
   unfolding settle
-  settle_no q r z p x e = rw (the_test p e ∙ q, z)
+  settle_no q p x e = rw (the_test p e ∙ q)
 
-pub settle_free : (c : Code) (i : ℕ) (m : Memory) (s : Thread) (b : Bool) → b ≡ eqb s.promises 0 → b ≡ true → (r : Moved) → r ≡ goes s → Settles c i m s r
-settle_free c i m s b d h r z p x e = settle_yes c i m s true (sym (without_promise c i m s (sym d ∙ h))) refl r z p x e
+pub settle_free : (c : Code) (i : ℕ) (m : Memory) (s : Thread) (b : Bool) → b ≡ eqb s.promises 0 → b ≡ true → Settles c i m s (Ok s)
+settle_free c i m s b d h p x e = settle_yes c i m s true (sym (without_promise c i m s (sym d ∙ h))) refl p x e
 
 -- ---- executing
-module _ (c : Code) (i : ℕ) (m : Memory) (s : Thread) (t : ℕ) (a : Moved) where
-  pub execute_end : c.count ≤ s.position → a ≡ stays 25 s → Executes c i m s t a
+module _ (c : Code) (i : ℕ) (m : Memory) (s : Thread) (t : ℕ) where
+  pub execute_end : c.count ≤ s.position → Executes c i m s t (Err AtEnd)
   unfolding execute_step instr_at
-  execute_end l z p x h = rw (h.code, h.thread, le-ltb s.position c.count l, z)
+  execute_end l p x h = rw (h.code, h.thread, le-ltb s.position c.count l)
 
-  module _ (y : Instr) (g : instr_at c s.position ≡ some y) (r : Ruled) (d : r ≡ ruled s (execute y m t s)) where
+  module _ (y : Instr) (g : instr_at c s.position ≡ some y) (r : Result Thread Refusal) (d : r ≡ ruled (execute y m t s)) where
     the_instr : (p : Program) (x : Machine) → Here c m s p x i → execute_step p x i t ≡ settle_rule p x i (execute y m t s)
     unfolding execute_step
     the_instr p x h =
         let is_next : instr_at (code_of p i) (thread_of x i).position ≡ some y = rw (h.code, h.thread) g in
         ap (execute_instr p x i t) is_next ∙ ap₂ (λ (n : Memory) (u : Thread). settle_rule p x i (execute y n t u)) h.memory h.thread
 
-    pub execute_done : r.answer ≡ rule.Done → Settles c i m r.thread a → Executes c i m s t a
-    execute_done z q p x h =
-        the_instr p x h ∙ ap (settle_rule p x i) (ruled_done s (execute y m t s) r d z)
-        ∙ ap (λ (n : Memory). settle p x i n r.thread) h.memory ∙ q p x h.code
+    pub execute_done : {s' : Thread} → r ≡ Ok s' → (a : Result Thread Refusal) → Settles c i m s' a → Executes c i m s t a
+    execute_done {s'} z a q p x h =
+        the_instr p x h ∙ ap (settle_rule p x i) (ruled_done (execute y m t s) r d z)
+        ∙ ap (λ (n : Memory). settle p x i n s') h.memory ∙ q p x h.code
 
-    pub execute_refused : (n : ℕ) → r.answer ≡ rule.Refused n → a ≡ stays n s → Executes c i m s t a
-    execute_refused n z q p x h = the_instr p x h ∙ ap (settle_rule p x i) (ruled_refused s (execute y m t s) r n d z) ∙ rw q
+    pub execute_refused : {n : Refusal} → r ≡ Err n → Executes c i m s t (Err n)
+    execute_refused z p x h = the_instr p x h ∙ ap (settle_rule p x i) (ruled_refused (execute y m t s) r d z)
 
 -- ---- promising
-module _ (c : Code) (i : ℕ) (m : Memory) (s : Thread) (l v : ℕ) (a : Moved) where
-  pub promise_23 : 15 < l → a ≡ stays 23 s → Promises c i m s l v a
+module _ (c : Code) (i : ℕ) (m : Memory) (s : Thread) (l v : ℕ) where
+  pub promise_23 : 15 < l → Promises c i m s l v (Err NoLocation)
   unfolding promise_step
-  promise_23 k z p x h = rw (lt-leb l 15 k, z)
+  promise_23 k p x h = rw (lt-leb l 15 k)
 
-  pub promise_24 : l ≤ 15 → 16 ≤ m.count → a ≡ stays 24 s → Promises c i m s l v a
+  pub promise_24 : l ≤ 15 → 16 ≤ m.count → Promises c i m s l v (Err MemoryFull)
   unfolding promise_step
-  promise_24 k j z p x h = rw (le-leb l 15 k, h.memory, le-ltb m.count 16 j, z)
+  promise_24 k j p x h = rw (le-leb l 15 k, h.memory, le-ltb m.count 16 j)
 
-  pub promise_settles : l ≤ 15 → m.count < 16 → (w : Message) → w ≡ record { location = l; value = v; thread = i }
+  pub promise_settles : (a : Result Thread Refusal) → l ≤ 15 → m.count < 16 → (w : Message) → w ≡ record { location = l; value = v; thread = i }
       → Settles c i (append m w) (add_promise (append m w) s) a → Promises c i m s l v a
   unfolding promise_step
-  promise_settles k j w e q p x h =
+  promise_settles a k j w e q p x h =
       let few : x.memory.count < 16 = rw h.memory j in
       rw (le-leb l 15 k, lt-ltb x.memory.count 16 few, ← e)
       (ap₂ (λ (n : Memory) (u : Thread). settle p x i (append n w) (add_promise (append n w) u)) h.memory h.thread ∙ q p x h.code)
 
 -- a promise after which the thread is certified
-pub promise_keeps : (i : ℕ) (m : Memory) (s : Thread) (l v : ℕ) (r : Moved) → l < 16 → m.count < 16 → r ≡ goes (with_promises (with s.promises (m.count + 1)) s)
-    → PromisesKept i m s l v r
-promise_keeps i m s l v r k j z c q =
+pub promise_keeps : (i : ℕ) (m : Memory) (s : Thread) (l v : ℕ) → l < 16 → m.count < 16 → PromisesKept i m s l v (Ok (with_promises (with s.promises (m.count + 1)) s))
+promise_keeps i m s l v k j c q =
     let w : Message = record { location = l; value = v; thread = i } in
-    promise_settles c i m s l v r (omega arith) j w refl (settle_yes c i (append m w) (add_promise (append m w) s) true (sym (is_true _ q)) refl r z)
+    promise_settles c i m s l v (Ok (with_promises (with s.promises (m.count + 1)) s)) (omega arith) j w refl (settle_yes c i (append m w) (add_promise (append m w) s) true (sym (is_true _ q)) refl)
 
 -- ---- a step of a thread, by its kind
-module _ (c : Code) (m : Memory) (s : Thread) (k : Step) (a : Moved) where
-  pub kind_execute_22 : k.kind ≡ 0 → (k.b ≡ 0 → ⊥) → a ≡ stays 22 s → Moves c m s k a
+module _ (c : Code) (m : Memory) (s : Thread) (k : Step) where
+  pub kind_execute_22 : k.kind ≡ 0 → (k.b ≡ 0 → ⊥) → Moves c m s k (Err StepKind)
   unfolding kind_step
-  kind_execute_22 e n z p x h = ap (kind_step p x k) e ∙ rw (ne_eqb k.b 0 n, z)
+  kind_execute_22 e n p x h = ap (kind_step p x k) e ∙ rw (ne_eqb k.b 0 n)
 
-  pub kind_execute : k.kind ≡ 0 → k.b ≡ 0 → Executes c k.thread m s k.a a → Moves c m s k a
+  pub kind_execute : (a : Result Thread Refusal) → k.kind ≡ 0 → k.b ≡ 0 → Executes c k.thread m s k.a a → Moves c m s k a
   unfolding kind_step
-  kind_execute e n q p x h =
+  kind_execute a e n q p x h =
       subst (λ (j : ℕ). kind_step p x k j ≡ decision x k.thread (memory_after m k j) a) (sym e) (rw (eq-eqb k.b 0 n) (q p x h))
 
-  pub kind_22 : (k.kind ≡ 0 → ⊥) → (k.kind ≡ 1 → ⊥) → a ≡ stays 22 s → Moves c m s k a
+  pub kind_22 : (k.kind ≡ 0 → ⊥) → (k.kind ≡ 1 → ⊥) → Moves c m s k (Err StepKind)
   unfolding kind_step
-  kind_22 e n z p x h = go k.kind e n ∙ rw z
+  kind_22 e n p x h = go k.kind e n
     where
-      go : (j : ℕ) → (j ≡ 0 → ⊥) → (j ≡ 1 → ⊥) → kind_step p x k j ≡ rejected 22
+      go : (j : ℕ) → (j ≡ 0 → ⊥) → (j ≡ 1 → ⊥) → kind_step p x k j ≡ rejected StepKind
       go zero a b = absurd (a refl)
       go (suc j) a b = rw (ne_eqb j 0 (λ q. b (omega arith)))
 
-  pub kind_promise : k.kind ≡ 1 → k.b < 256 → Promises c k.thread m s k.a k.b a → Moves c m s k a
+  pub kind_promise : (a : Result Thread Refusal) → k.kind ≡ 1 → k.b < 256 → Promises c k.thread m s k.a k.b a → Moves c m s k a
   unfolding kind_step
-  kind_promise e n q p x h =
+  kind_promise a e n q p x h =
       subst (λ (j : ℕ). kind_step p x k j ≡ decision x k.thread (memory_after m k j) a) (sym e) (rw (le-leb k.b 255 (omega arith)) (q p x h))
 
 -- ---- the memory after a step
@@ -163,20 +155,20 @@ has_room : (p : Program) (x : Machine) (k : Step) (n : ℕ) → n ≡ k.kind →
 unfolding kind_step promise_step
 has_room p x k zero z y e = inl (sym z)
 has_room p x k (suc n) z y e =
-    let a = check_passed (eqb n 0 && leb k.b 255) 22 _ y e in
-    let b = check_passed (leb k.a 15) 23 _ y a.1 in
-    inr (ltb→lt x.memory.count 16 (check_passed (ltb x.memory.count 16) 24 _ y b.1).0)
+    let a = check_passed (eqb n 0 && leb k.b 255) StepKind _ y e in
+    let b = check_passed (leb k.a 15) NoLocation _ y a.1 in
+    inr (ltb→lt x.memory.count 16 (check_passed (ltb x.memory.count 16) MemoryFull _ y b.1).0)
 
-pub room_taken : (p : Program) (x : Machine) (k : Step) (m : Memory) (r : Moved) → kind_step p x k k.kind ≡ decision x k.thread m r → r.answer ≡ Taken → (k.kind ≡ 0) ⊎ (x.memory.count < 16)
-room_taken p x k m r e t = has_room p x k k.kind refl _ (e ∙ ap (placed x k.thread m r.thread) t)
+pub room_taken : (p : Program) (x : Machine) (k : Step) (m : Memory) (r : Result Thread Refusal) → kind_step p x k k.kind ≡ decision x k.thread m r → {s : Thread} → r ≡ Ok s → (k.kind ≡ 0) ⊎ (x.memory.count < 16)
+room_taken p x k m r e t = has_room p x k k.kind refl _ (e ∙ ap (decision x k.thread m) t)
 
 -- ---- any step
 module _ (p : Program) (x : Machine) (k : Step) where
-  pub rule_21 : p.threads ≤ k.thread → rule_step p x k ≡ rejected 21
+  pub rule_21 : p.threads ≤ k.thread → rule_step p x k ≡ rejected NoThread
   unfolding rule_step
   rule_21 h = rw (le-ltb k.thread p.threads h)
 
-  module _ (h : k.thread < p.threads) (r : Moved) (c : Code) (s : Thread) (d : c ≡ code_of p k.thread) (e : s ≡ thread_of x k.thread) (q : Moves c x.memory s k r) where
+  module _ (h : k.thread < p.threads) (r : Result Thread Refusal) (c : Code) (s : Thread) (d : c ≡ code_of p k.thread) (e : s ≡ thread_of x k.thread) (q : Moves c x.memory s k r) where
     here : Here c x.memory s p x k.thread
     here = record { code = sym d; memory = refl; thread = sym e }
 
@@ -184,12 +176,11 @@ module _ (p : Program) (x : Machine) (k : Step) where
     unfolding rule_step
     by_thread = rw (lt-ltb k.thread p.threads h) (q p x here)
 
-    pub rule_taken : r.answer ≡ Taken → (m : Memory) → Remembers x.memory k m → (y : Machine) → y ≡ record { memory = m; threads = set x.threads k.thread r.thread }
-        → ◌≡◌ {A = Stepped} (record { answer = Taken; machine = y }) (stepped x (rule_step p x k))
+    pub rule_taken : {s' : Thread} → r ≡ Ok s' → (m : Memory) → Remembers x.memory k m → (y : Machine) → y ≡ record { memory = m; threads = set x.threads k.thread s' } → Ok y ≡ stepped (rule_step p x k)
     rule_taken t m w y z = rw (by_thread, t, z, w (room_taken p x k _ r (q p x here) t))
 
-    pub rule_refused : (n : ℕ) → r.answer ≡ Refused n → stepped x (rejected n) ≡ stepped x (rule_step p x k)
-    rule_refused n t = rw (by_thread, t)
+    pub rule_refused : {n : Refusal} → r ≡ Err n → Err n ≡ stepped (rule_step p x k)
+    rule_refused t = rw (by_thread, t)
 
 -- ---- the thread of a well-formed machine is ready
 pub thread_ready : (p : Program) (x : Machine) → Formed p x → (i : ℕ) → i < p.threads → (c : Code) (s : Thread) → c ≡ code_of p i → s ≡ thread_of x i → Ready c x.memory s
@@ -197,7 +188,7 @@ thread_ready p x o i h c s d e = rw (d, e) (ready_here p x o i h)
 
 -- ---- a step asked of any program and machine
 module _ (p : Program) (x : Machine) (k : Step) (f : Bool) (e : f ≡ (program_test p && machine_test p x)) where
-  pub step_20 : f ≡ false → step p x k ≡ rejected 20
+  pub step_20 : f ≡ false → step p x k ≡ rejected NotWellFormed
   unfolding step
   step_20 h = rw (sym e ∙ h)
 
@@ -206,5 +197,5 @@ module _ (p : Program) (x : Machine) (k : Step) (f : Bool) (e : f ≡ (program_t
   step_formed h = rw (sym e ∙ h)
 
 -- ---- answers that meet the contract coincide
-pub step_coincide : (p : Program) (x : Machine) (k : Step) (r r' : Stepped) → r ≡ stepped x (step p x k) → r' ≡ stepped x (step p x k) → r ≡ r'
+pub step_coincide : (p : Program) (x : Machine) (k : Step) (r r' : Result Machine Refusal) → r ≡ stepped (step p x k) → r' ≡ stepped (step p x k) → r ≡ r'
 step_coincide p x k r r' d d' = d ∙ sym d'

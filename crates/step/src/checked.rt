@@ -3,17 +3,18 @@ ghost use Rattle.std.specs.Prelude.{◌≡◌};
 ghost use Rattle.step.specs.Step.{step};
 ghost use Rattle.step.specs.Answers.{stepped};
 
-use crate::{Stepped, TraceStep, refused, rule_step};
+use crate::{TraceStep, rule_step};
 use machine::Machine;
 use machine_form::both_formed;
-use program::Program;
+use program::{Program, Refusal};
 
-pub fn step(p: Program, x: Machine, k: TraceStep) -> Stepped
-    ensures { result ≡ stepped x (step p x k) }
+// The machine after the step, or why it is refused.
+pub fn step(p: Program, x: Machine, k: TraceStep) -> Result<Machine, Refusal>
+    ensures { result ≡ stepped (step p x k) }
 {
     if both_formed(p, x) {
         rule_step(p, x, k)
     } else {
-        refused(20, x)
+        Err(Refusal::NotWellFormed)
     }
 }

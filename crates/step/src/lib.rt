@@ -1,4 +1,4 @@
-// One step of the machine: refused with a number and the machine as it came in, or taken with the next machine.
+// One step of the machine: the next machine, or why the step is refused; the machine that it is asked of stays its caller's.
 #![tactic(auto)]
 
 mod checked;
@@ -9,15 +9,15 @@ ghost use Rattle.program.specs.Program.{instr_at};
 ghost use Rattle.machine.specs.State.{with, with_promises};
 ghost use Rattle.machine.specs.Inner.{Formed};
 ghost use Rattle.certify_runs.specs.Inner.{Ready};
-ghost use Rattle.step.specs.Step.{rejected, rule_step};
-ghost use Rattle.step.specs.Answers.{Taken, Refused, stepped, step_refusal};
+ghost use Rattle.step.specs.Step.{rule_step};
+ghost use Rattle.step.specs.Answers.{stepped};
 ghost use Rattle.step.specs.Inner.{Settles, Executes, Promises, PromisesKept, Moves, Remembers, without_newest};
 
 use certify::is_certified;
 pub use checked::step;
 use machine::promises::{is_empty, with};
-use machine::{Machine, Memory, Message, RuleAnswer, Thread};
-use program::{Code, Instr, Program};
+use machine::{Machine, Memory, Message, Thread};
+use program::{Code, Instr, Program, Refusal};
 use rules::execute;
 
 // As a trace has it: kind 0 is an execution at time a, with b 0; kind 1 is a promise of the value b at location a.
@@ -29,99 +29,38 @@ pub struct TraceStep {
     pub b: u8,
 }
 
-#[derive(Clone, Copy)]
-pub enum StepAnswer {
-    Taken,
-    Refused(u8),
-}
-
-// The number of a refusal, 0 where the step is taken.
-pub fn step_refusal(a: StepAnswer) -> u8
-    ensures { result ≡ step_refusal a }
-{
-    match a {
-        StepAnswer::Taken => 0,
-        StepAnswer::Refused(n) => n,
-    }
-}
-
-// The answer, and the machine after it; a refused machine is as it came in.
-#[derive(Clone, Copy)]
-pub struct Stepped {
-    pub answer: StepAnswer,
-    pub machine: Machine,
-}
-
-pub fn refused(n: u8, x: Machine) -> Stepped
-    ensures { result ≡ stepped x (rejected n) }
-{
-    Stepped {
-        answer: StepAnswer::Refused(n),
-        machine: x,
-    }
-}
-
-// The answer of a step of one thread; taken, the thread after it.
-#[derive(Clone, Copy)]
-pub struct Moved {
-    pub answer: StepAnswer,
-    pub thread: Thread,
-}
-
-fn stays(n: u8, s: Thread) -> Moved
-    ensures { result ≡ record { answer = Refused n; thread = s } }
-{
-    Moved {
-        answer: StepAnswer::Refused(n),
-        thread: s,
-    }
-}
-
-fn goes(s: Thread) -> Moved
-    ensures { result ≡ record { answer = Taken; thread = s } }
-{
-    Moved {
-        answer: StepAnswer::Taken,
-        thread: s,
-    }
-}
-
 // Thread i becomes s on memory m, if it is certified there. Without a promise it is.
-fn settle(c: Code, i: u8, m: Memory, s: Thread) -> Moved
+fn settle(c: Code, i: u8, m: Memory, s: Thread) -> Result<Thread, Refusal>
     requires { Ready c m s }
     ensures { Settles c i m s result }
 {
     if is_empty(s.promises) {
-        return goes(s);
+        return Ok(s);
     }
     if is_certified(c, i, m, s) {
-        goes(s)
+        Ok(s)
     } else {
-        stays(29, s)
+        Err(Refusal::NotCertified)
     }
 }
 
 // Thread i executes x, its next instruction, at time t.
-fn execute_at(x: Instr, c: Code, i: u8, m: Memory, s: Thread, t: u8) -> Moved
+fn execute_at(x: Instr, c: Code, i: u8, m: Memory, s: Thread, t: u8) -> Result<Thread, Refusal>
     requires { Ready c m s × (instr_at c s.position ≡ some x) }
     ensures { Executes c i m s t result }
 {
-    let r = execute(x, m, t, s);
-    let answer = r.answer;
-    match answer {
-        RuleAnswer::Done => settle(c, i, m, r.thread),
-        RuleAnswer::Refused(k) => stays(k, s),
-    }
+    let y = execute(x, m, t, s)?;
+    settle(c, i, m, y)
 }
 
 // Thread i executes its next instruction, if there is one, at time t.
-fn execute_step(c: Code, i: u8, m: Memory, s: Thread, t: u8) -> Moved
+fn execute_step(c: Code, i: u8, m: Memory, s: Thread, t: u8) -> Result<Thread, Refusal>
     requires { Ready c m s }
     ensures { Executes c i m s t result }
 {
     let n = s.position;
     if c.count <= n {
-        return stays(25, s);
+        return Err(Refusal::AtEnd);
     }
     execute_at(c.instr_at(n), c, i, m, s, t)
 }
@@ -135,15 +74,15 @@ fn promised(m: Memory, s: Thread) -> Thread
 }
 
 // Thread i promises location l and value v.
-fn promise_step(c: Code, i: u8, m: Memory, s: Thread, l: u8, v: u8) -> Moved
+fn promise_step(c: Code, i: u8, m: Memory, s: Thread, l: u8, v: u8) -> Result<Thread, Refusal>
     requires { Ready c m s }
     ensures { Promises c i m s l v result }
 {
     if 15 < l {
-        return stays(23, s);
+        return Err(Refusal::NoLocation);
     }
     if 16 <= m.count {
-        return stays(24, s);
+        return Err(Refusal::MemoryFull);
     }
     let q = promised(m, s);
     let w = Message {
@@ -156,26 +95,26 @@ fn promise_step(c: Code, i: u8, m: Memory, s: Thread, l: u8, v: u8) -> Moved
 }
 
 // The same where the promise is known to leave the thread certified: nothing is left to ask.
-pub fn promise_kept(i: u8, m: Memory, s: Thread, l: u8, v: u8) -> Moved
+pub fn promise_kept(i: u8, m: Memory, s: Thread, l: u8, v: u8) -> Result<Thread, Refusal>
     requires { (l < 16) × ((m.count < 16) × (s.promises < 2 ^ m.count)) }
     ensures { PromisesKept i m s l v result }
 {
-    goes(promised(m, s))
+    Ok(promised(m, s))
 }
 
 // The step of a thread that has code c and state s, on memory m.
-fn thread_step(c: Code, m: Memory, s: Thread, k: TraceStep) -> Moved
+fn thread_step(c: Code, m: Memory, s: Thread, k: TraceStep) -> Result<Thread, Refusal>
     requires { Ready c m s }
     ensures { Moves c m s k result }
 {
     if k.kind == 0 {
         if k.b != 0 {
-            return stays(22, s);
+            return Err(Refusal::StepKind);
         }
         return execute_step(c, k.thread, m, s, k.a);
     }
     if k.kind != 1 {
-        return stays(22, s);
+        return Err(Refusal::StepKind);
     }
     promise_step(c, k.thread, m, s, k.a, k.b)
 }
@@ -214,21 +153,14 @@ pub fn memory_before(mut m: Memory) -> Memory
 }
 
 // The step on a program and a machine that are well formed.
-pub fn rule_step(p: Program, x: Machine, k: TraceStep) -> Stepped
+pub fn rule_step(p: Program, x: Machine, k: TraceStep) -> Result<Machine, Refusal>
     requires { Formed p x }
-    ensures { result ≡ stepped x (rule_step p x k) }
+    ensures { result ≡ stepped (rule_step p x k) }
 {
     let i = k.thread;
     if p.threads <= i {
-        return refused(21, x);
+        return Err(Refusal::NoThread);
     }
-    let r = thread_step(p.code_of(i), x.memory, x.thread_of(i), k);
-    let answer = r.answer;
-    match answer {
-        StepAnswer::Taken => Stepped {
-            answer: StepAnswer::Taken,
-            machine: x.moved(i, memory_after(x.memory, k), r.thread),
-        },
-        StepAnswer::Refused(n) => refused(n, x),
-    }
+    let s = thread_step(p.code_of(i), x.memory, x.thread_of(i), k)?;
+    Ok(x.moved(i, memory_after(x.memory, k), s))
 }

@@ -6,10 +6,10 @@ use mathlib.Core.Path.{refl}
 use Rattle.step.proofs.promise_step.Goals as goal
 
 pub returns-then-l-gt15 : goal.returns-then-l-gt15
-returns-then-l-gt15 c = promise_23 _ _ _ _ _ _ _ c.if-l-gt15.true c.stays.ensures
+returns-then-l-gt15 c = promise_23 _ _ _ _ _ _ c.if-l-gt15.true
 
 pub returns-then-m-ge16 : goal.returns-then-m-ge16
-returns-then-m-ge16 c = promise_24 _ _ _ _ _ _ _ c.if-l-gt15.false c.if-m-ge16.true c.stays-then-m-ge16.ensures
+returns-then-m-ge16 c = promise_24 _ _ _ _ _ _ c.if-l-gt15.false c.if-m-ge16.true
 
 pub promised-q-requires : goal.promised-q-requires
 promised-q-requires c = (c.if-m-ge16.false, c.requires.promises_in)

@@ -10,7 +10,7 @@ pub rule_step-requires : goal.rule_step-requires
 rule_step-requires c = formed _ _ _ c.both_formed.ensures c.if-both_formed.true
 
 pub returns-then-both_formed : goal.returns-then-both_formed
-returns-then-both_formed c = c.rule_step.ensures ∙ ap (stepped _) (sym (step_formed _ _ _ _ c.both_formed.ensures c.if-both_formed.true))
+returns-then-both_formed c = c.rule_step.ensures ∙ ap stepped (sym (step_formed _ _ _ _ c.both_formed.ensures c.if-both_formed.true))
 
 pub returns-else-both_formed : goal.returns-else-both_formed
-returns-else-both_formed c = c.refused.ensures ∙ ap (stepped _) (sym (step_20 _ _ _ _ c.both_formed.ensures c.if-both_formed.false))
+returns-else-both_formed c = ap stepped (sym (step_20 _ _ _ _ c.both_formed.ensures c.if-both_formed.false))
