@@ -7,7 +7,7 @@ ghost use Rattle.program.specs.File.{condition_of, with_header, with_question, r
 ghost use Rattle.program.specs.Answers.{file_read};
 ghost use Rattle.file_cursor.specs.Cursors.{cursor_of, reading_of, Standing};
 
-use file_cursor::{Cursor, marked, no_program};
+use file_cursor::{Cursor, marked};
 use file_range::condition_fault;
 use file_threads::read_threads;
 use program::Condition;
@@ -17,7 +17,7 @@ pub use program::{Program, Refusal, Refused};
 fn with_header(v: u8, n: u8) -> Program
     ensures { result ≡ with_header v n no_program }
 {
-    let mut p = no_program();
+    let mut p = Program::default();
     p.version = v;
     p.threads = n;
     p

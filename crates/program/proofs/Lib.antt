@@ -13,5 +13,6 @@ pub mod Reader
 pub mod Arrays
 pub mod PassedOn
 pub mod Reading
+pub mod Answered
 pub mod Coincide
 pub mod Loops

@@ -3,12 +3,12 @@
 
 ghost use Rattle.std.specs.Prelude.{◌≡◌, ◌<◌};
 ghost use Rattle.std.proofs.Math.Option.{some};
-ghost use Rattle.program.specs.Program.{operand, compute_mode, load_mode, store_mode, fence_mode, decode, instruction_at, instr_at, code_of};
+ghost use Rattle.program.specs.Program.{operand, compute_mode, load_mode, store_mode, fence_mode, decode, no_code, no_program, instruction_at, instr_at, code_of};
 ghost use Rattle.program.specs.Counts.{one_store};
 ghost use Rattle.program.specs.Refusals.{number};
 
 // An instruction's seven bytes. The operand (k, n) is the constant n for k = 0, the register n for k = 1.
-#[derive(Clone, Copy)]
+#[derive(Clone, Copy, Default)]
 pub struct Instruction {
     pub op: u8,
     pub m: u8,
@@ -27,7 +27,7 @@ pub struct Code {
 }
 
 // Kind 0: register `index` of `thread` has `value`; kind 1: location `index` ends with `value`.
-#[derive(Clone, Copy)]
+#[derive(Clone, Copy, Default)]
 pub struct Condition {
     pub kind: u8,
     pub thread: u8,
@@ -203,6 +203,18 @@ impl Instruction {
     }
 }
 
+// No instructions.
+impl Default for Code {
+    fn default() -> Code
+        ensures { result ≡ no_code }
+    {
+        Code {
+            instructions: [Instruction::default(); 16],
+            count: 0,
+        }
+    }
+}
+
 impl Code {
     // The bytes at a position; whether the position is before the thread's end is the caller's test.
     pub fn instruction_at(self, n: u8) -> Instruction
@@ -218,6 +230,21 @@ impl Code {
         ensures { instr_at self n ≡ some result }
     {
         self.instruction_at(n).decode()
+    }
+}
+
+// The program of all 0.
+impl Default for Program {
+    fn default() -> Program
+        ensures { result ≡ no_program }
+    {
+        Program {
+            codes: [Code::default(); 4],
+            question: [Condition::default(); 8],
+            version: 0,
+            threads: 0,
+            conditions: 0,
+        }
     }
 }
 

@@ -3,4 +3,4 @@
 use Rattle.file_reader.proofs.with_header.Goals as goal
 
 pub returns : goal.returns
-returns c = rw c.no_program-p.ensures
+returns c = rw c.default-p.ensures
