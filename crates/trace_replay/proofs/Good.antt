@@ -11,6 +11,7 @@ use lib.ListN.{length}
 use borrow.Author.Tests.{eqb-true, eqb-false}
 use Rattle.program.specs.declared.Program.{Program}
 use Rattle.program.specs.File.{FileAnswer, program, read_file}
+use Rattle.program.specs.declared.Refusal.{Refusal}
 use Rattle.machine.specs.declared.Machine.{Machine}
 use Rattle.machine.specs.State.{fresh}
 use Rattle.step.specs.Step.{Step, Decision, rejected, accepted, step}
@@ -21,7 +22,7 @@ use Rattle.trace_replay.specs.Answers.{Replayed, replayed, on_program, replay}
 use Rattle.trace_replay.specs.InTurn.{InTurn, no_step, a_step, TraceOf}
 
 -- ---- what ends is not broken off
-pub not_broken : {n m c : ℕ} {x y : Machine} → broken c n x ≡ ended m y → ⊥
+pub not_broken : {n m : ℕ} {c : Refusal} {x y : Machine} → broken c n x ≡ ended m y → ⊥
 not_broken {n} {m} {c} {x} {y} e = eqb-false 0 1 refl cc
 
 ended_steps : {n m : ℕ} {x y : Machine} → ended n x ≡ ended m y → n ≡ m

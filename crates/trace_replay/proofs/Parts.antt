@@ -8,6 +8,7 @@ use native.Mathlib.Omega.{arith}
 use lib.Dec.{eqb}
 use lib.ListN.{length}
 use Rattle.program.specs.declared.Program.{Program}
+use Rattle.program.specs.declared.Refusal.{Refusal}
 use Rattle.machine.specs.declared.Machine.{Machine}
 use Rattle.step.specs.Step.{Decision, rejected, accepted, step}
 use Rattle.trace_replay.specs.Replay.{ReplayEnd, ended, broken, after_mark, after_step, replay_from}
@@ -27,17 +28,17 @@ module _ (p : Program) where
   same_refusal true k x (rejected i) f g r on h = h
   same_refusal true k x (accepted z) f g r on h = on z h
 
-  -- BROKEN OFF: where the replay of whole records is broken off, so is that of all that begin with them: with the same number, steps and machine
-  pub broken_off : (records k : ℕ) (x : Machine) (a b : List ℕ) (number n : ℕ) (y : Machine) → length a ≡ 6 * records
-      → replay_from p k x a ≡ broken number n y → replay_from p k x (a ++ b) ≡ broken number n y
+  -- BROKEN OFF: where the replay of whole records is broken off, so is that of all that begin with them: with the same refusal, steps and machine
+  pub broken_off : (records k : ℕ) (x : Machine) (a b : List ℕ) (refusal : Refusal) (n : ℕ) (y : Machine) → length a ≡ 6 * records
+      → replay_from p k x a ≡ broken refusal n y → replay_from p k x (a ++ b) ≡ broken refusal n y
   unfolding replay_from
-  broken_off records k x [] b number n y whole h = absurd (not_broken (sym h))
-  broken_off records k x (c ∷ []) b number n y whole h = absurd (omega arith)
-  broken_off records k x (c ∷ d ∷ []) b number n y whole h = absurd (omega arith)
-  broken_off records k x (c ∷ d ∷ e ∷ []) b number n y whole h = absurd (omega arith)
-  broken_off records k x (c ∷ d ∷ e ∷ i ∷ []) b number n y whole h = absurd (omega arith)
-  broken_off records k x (c ∷ d ∷ e ∷ i ∷ u ∷ []) b number n y whole h = absurd (omega arith)
-  broken_off records k x (c ∷ d ∷ e ∷ i ∷ u ∷ v ∷ a) b number n y whole h =
+  broken_off records k x [] b refusal n y whole h = absurd (not_broken (sym h))
+  broken_off records k x (c ∷ []) b refusal n y whole h = absurd (omega arith)
+  broken_off records k x (c ∷ d ∷ []) b refusal n y whole h = absurd (omega arith)
+  broken_off records k x (c ∷ d ∷ e ∷ []) b refusal n y whole h = absurd (omega arith)
+  broken_off records k x (c ∷ d ∷ e ∷ i ∷ []) b refusal n y whole h = absurd (omega arith)
+  broken_off records k x (c ∷ d ∷ e ∷ i ∷ u ∷ []) b refusal n y whole h = absurd (omega arith)
+  broken_off records k x (c ∷ d ∷ e ∷ i ∷ u ∷ v ∷ a) b refusal n y whole h =
       same_refusal (eqb c 0x53 && eqb d 0x54) k x (step p x (record { kind = e; thread = i; a = u; b = v }))
-      (λ z. replay_from p (suc k) z a) (λ z. replay_from p (suc k) z (a ++ b)) (broken number n y)
-      (λ z. broken_off (records - 1) (suc k) z a b number n y (omega arith)) h
+      (λ z. replay_from p (suc k) z a) (λ z. replay_from p (suc k) z (a ++ b)) (broken refusal n y)
+      (λ z. broken_off (records - 1) (suc k) z a b refusal n y (omega arith)) h

@@ -2,32 +2,30 @@
 #![tactic(auto)]
 
 ghost use Rattle.std.specs.Prelude.{◌≡◌, List, ℕ, ◌*◌};
-ghost use Rattle.program.specs.Program.{no_program};
 ghost use Rattle.program.specs.File.{refused};
 ghost use Rattle.machine.specs.Inner.{Formed};
 ghost use Rattle.trace_replay.specs.Replay.{ended, broken, replay_from};
 ghost use Rattle.trace_replay.specs.Answers.{replayed, on_program, refused_with, replay};
 
-use file_reader::{ReadAnswer, read};
+use file_reader::read;
 use machine::Machine;
 use machine::machines::fresh;
-use program::Program;
-use step::{StepAnswer, rule_step, step_refusal};
+use program::{Program, Refusal, Refused};
+use step::rule_step;
 use step_ending::{asked, complete};
 use trace_record::{marked_at, step_at};
 
-// Which file a refusal is in, its number, in the trace the record's index from 0, and the place.
+// A refusal in either file; in the trace with the index of its record, from 0.
 #[derive(Clone, Copy)]
-pub enum ReplayAnswer {
-    Good,
-    ProgramRefused(u8, usize),
-    TraceRefused(u8, usize, usize),
+pub enum ReplayRefusal {
+    Program(Refused),
+    Trace(Refused, usize),
 }
 
-// The steps taken and the machine after them; whether it is complete, and complete with the asked outcome.
+// The steps taken and the machine after them, also where a later record is refused; whether it is complete, and complete with the asked outcome.
 #[derive(Clone, Copy)]
 pub struct Replayed {
-    pub answer: ReplayAnswer,
+    pub answer: Result<(), ReplayRefusal>,
     pub program: Program,
     pub steps: usize,
     pub machine: Machine,
@@ -40,7 +38,7 @@ fn finished(p: Program, n: usize, x: Machine) -> Replayed
     ensures { result ≡ replayed p (ended n x) }
 {
     Replayed {
-        answer: ReplayAnswer::Good,
+        answer: Ok(()),
         program: p,
         steps: n,
         machine: x,
@@ -50,11 +48,11 @@ fn finished(p: Program, n: usize, x: Machine) -> Replayed
 }
 
 // A refusal in either file: both yes-or-no answers are no.
-fn refused_with(answer: ReplayAnswer, p: Program, n: usize, x: Machine) -> Replayed
-    ensures { result ≡ refused_with answer p n x }
+fn refused_with(refusal: ReplayRefusal, p: Program, n: usize, x: Machine) -> Replayed
+    ensures { result ≡ refused_with refusal p n x }
 {
     Replayed {
-        answer: answer,
+        answer: Err(refusal),
         program: p,
         steps: n,
         machine: x,
@@ -63,11 +61,12 @@ fn refused_with(answer: ReplayAnswer, p: Program, n: usize, x: Machine) -> Repla
     }
 }
 
-fn stopped(p: Program, number: u8, n: usize, at: usize, x: Machine) -> Replayed
-    requires { at ≡ 6 * n }
-    ensures { result ≡ replayed p (broken number n x) }
+// The record after n steps is refused, at its place.
+fn stopped(p: Program, e: Refused, n: usize, x: Machine) -> Replayed
+    requires { e.place ≡ 6 * n }
+    ensures { result ≡ replayed p (broken e.refusal n x) }
 {
-    refused_with(ReplayAnswer::TraceRefused(number, n, at), p, n, x)
+    refused_with(ReplayRefusal::Trace(e, n), p, n, x)
 }
 
 // Whole records are taken one by one, the first on the machine `start`; then the trace may end inside another.
@@ -77,41 +76,33 @@ fn replay_from(p: Program, start: Machine, trace: &[u8]) -> Replayed
 {
     let records = trace.len() / 6;
     let mut x = start;
-    let mut n = 0usize;
-    while n < records {
+    for n in 0..records {
         let at = 6 * n;
-        let next = n + 1;
         if !marked_at(trace, at) {
-            return stopped(p, 2, n, at, x);
+            return stopped(p, Refusal::OtherMark.at(at), n, x);
         }
-        let r = rule_step(p, x, step_at(trace, at));
-        let answer = r.answer;
-        let StepAnswer::Taken = answer else {
-            return stopped(p, step_refusal(answer), n, at, x);
-        };
-        x = r.machine;
-        n = next;
+        match rule_step(p, x, step_at(trace, at)) {
+            Ok(y) => x = y,
+            Err(refusal) => return stopped(p, refusal.at(at), n, x),
+        }
     }
     if trace.len() % 6 != 0 {
-        return stopped(p, 1, records, 6 * records, x);
+        return stopped(p, Refusal::InputEnds.at(6 * records), records, x);
     }
     finished(p, records, x)
 }
 
-fn no_program(number: u8, place: usize, p: Program) -> Replayed
-    requires { p ≡ no_program }
-    ensures { (t : List ℕ) → result ≡ on_program (refused number place) t }
+fn no_program(e: Refused) -> Replayed
+    ensures { (t : List ℕ) → result ≡ on_program (refused e.refusal e.place) t }
 {
-    refused_with(ReplayAnswer::ProgramRefused(number, place), p, 0, fresh())
+    refused_with(ReplayRefusal::Program(e), Program::default(), 0, fresh())
 }
 
 pub fn replay(file: &[u8], trace: &[u8]) -> Replayed
     ensures { result ≡ replay file.now trace.now }
 {
-    let r = read(file);
-    let answer = r.answer;
-    match answer {
-        ReadAnswer::Good => replay_from(r.program, fresh(), trace),
-        ReadAnswer::Refused(number, place) => no_program(number, place, r.program),
+    match read(file) {
+        Ok(p) => replay_from(p, fresh(), trace),
+        Err(e) => no_program(e),
     }
 }

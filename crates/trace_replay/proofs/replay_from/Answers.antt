@@ -14,30 +14,30 @@ marked_at-requires c = full _ _ _ _ c.loop-n.invariant c.loop-n-test.true
 
 pub returns-then-not-marked_at : goal.returns-then-not-marked_at
 returns-then-not-marked_at c =
-    c.stopped.ensures
+    (rw c.at.ensures at c.stopped.ensures)
     ∙ ap (replayed _) (sym (unmarked _ _ _ _ c.loop-n.invariant c.loop-n-test.true (sym c.marked_at.ensures ∙ c.if-not-marked_at.true)))
 
 pub step_at-requires : goal.step_at-requires
 step_at-requires c = full _ _ _ _ c.loop-n.invariant c.loop-n-test.true
 
-pub rule_step-r-requires : goal.rule_step-r-requires
-rule_step-r-requires c = c.loop-n.invariant.well
+pub rule_step-requires : goal.rule_step-requires
+rule_step-requires c = c.loop-n.invariant.well
 
-pub returns-in_default : goal.returns-in_default
-returns-in_default c =
-    c.stopped-in_default.ensures
-    ∙ ap (replayed _) (sym (step_refused _ _ _ _ c.loop-n.invariant c.loop-n-test.true (sym c.marked_at.ensures ∙ c.if-not-marked_at.false) _ c.step_at.ensures _ c.rule_step-r.ensures _ _ c.step_refusal.ensures c.in_default.is))
+pub returns-in-Err : goal.returns-in-Err
+returns-in-Err c =
+    (rw c.at-in-Err.ensures at c.stopped-in-Err.ensures)
+    ∙ ap (replayed _) (sym (step_refused _ _ _ _ c.loop-n.invariant c.loop-n-test.true (sym c.marked_at.ensures ∙ c.if-not-marked_at.false) _ c.step_at.ensures _ c.rule_step.ensures c.in-Err.is))
 
 pub loop-n-preserved : goal.loop-n-preserved
 loop-n-preserved c =
-    step_taken _ _ _ _ c.loop-n.invariant c.loop-n-test.true (sym c.marked_at.ensures ∙ c.if-not-marked_at.false) _ c.step_at.ensures _ c.rule_step-r.ensures c.in-Taken.is
+    step_taken _ _ _ _ c.loop-n.invariant c.loop-n-test.true (sym c.marked_at.ensures ∙ c.if-not-marked_at.false) _ c.step_at.ensures _ c.rule_step.ensures c.in-Ok.is
 
 pub returns-then-trace-ne0 : goal.returns-then-trace-ne0
 returns-then-trace-ne0 c =
     let i = c.loop-n.invariant in
     let w = i.whole in
     let e = c.if-trace-ne0.true in
-    c.stopped-then-trace-ne0.ensures ∙ ap (replayed _) (sym (cut _ _ _ _ i c.loop-n-test.false (omega arith)))
+    (rw c.at-then-trace-ne0.ensures at c.stopped-then-trace-ne0.ensures) ∙ ap (replayed _) (sym (cut _ _ _ _ i c.loop-n-test.false (omega arith)))
 
 pub finished-requires : goal.finished-requires
 finished-requires c = c.loop-n.invariant.well
