@@ -9,9 +9,8 @@ use native.Mathlib.Omega.{arith}
 use lib.Dec.{T}
 use lib.ListN.{length, replicate}
 use borrow.Author.Tests.{lt-ltb, le-ltb, eqb-false}
-use Rattle.program.specs.declared.FileRead.{FileRead}
+use Rattle.std.specs.Prelude.{Result, Ok, Err}
 use Rattle.program.specs.declared.Program.{Program}
-use Rattle.program.specs.declared.ReadAnswer.TheVariants as reading
 use Rattle.program.specs.File.{FileAnswer, read_file}
 use Rattle.program.specs.Answers.{file_read}
 use Rattle.program.specs.WellFormed.{program_test}
@@ -21,7 +20,8 @@ use Rattle.encode_bytes.specs.Places.{put}
 use Rattle.theory_sequences.specs.Scan.{Scan, noted_of}
 use Rattle.theory_sequences.specs.Listing.{Listing, finished, unfinished}
 use Rattle.step.specs.Step.{Step}
-use Rattle.trace_replay.proofs.Files.{read_good, read_refused}
+use Rattle.program.proofs.Answered.{read_good, read_refused}
+use Rattle.program.specs.declared.Refused.{Refused}
 use Rattle.search_sequences.specs.OfProgram.{sequences_of, listing_to}
 use Rattle.search_outcomes.specs.Table.{row_width, capacity, Notes, met_of}
 use Rattle.search_outcomes.proofs.Holding.{Holds, holds_none, holds_orderly}
@@ -33,7 +33,7 @@ use Rattle.search_arrivals.specs.declared.Ran.TheVariants.{Going, Out}
 use Rattle.search_arrivals.specs.Visits.{visiting, Reports, Visitable}
 use Rattle.search_arrivals.proofs.Acting.{visiting_keeps}
 use Rattle.search_visits.proofs.Start.{ready_fresh}
-use Rattle.outcomes.specs.Answers.{Finished, NotFinished, Refused, Answer, nothing_listed, answer_of, emptied, table_of, answer_on, table_on, ListedIn, machines_on, ListedWithin}
+use Rattle.outcomes.specs.Answers.{Finished, TooMany, NotFinished, Answer, nothing_listed, answer_of, emptied, table_of, answer_on, table_on, ListedIn, machines_on, ListedWithin}
 use Rattle.outcomes.specs.Inner.{ListsOn}
 use Rattle.outcomes.proofs.Gathered.{all_entries, listing_finished, listing_unfinished, Ends, went, spent, visit_ends}
 
@@ -135,7 +135,7 @@ module _ (p : Program) (wide : Bool) (b : ℕ) (t : List ℕ) (r : Ran) (after :
         emptied_again = again ∙ ap (λ (k : ℕ). put 0 (replicate (k * (length t / k)) 0) after.0) width ∙ tail_cleared tail_after
 
         -- more outcomes were met than there is room for
-        pub too_many : (c : ℕ) → r ≡ Going c → capacity wide t < met_of after → (a : Answer) → a ≡ nothing_listed (Refused 40 0) (b - c) → ListsOn p wide b t machines a t' machines'
+        pub too_many : (c : ℕ) → r ≡ Going c → capacity wide t < met_of after → (a : Answer) → a ≡ nothing_listed TooMany (b - c) → ListsOn p wide b t machines a t' machines'
         too_many c e many a told-so =
             let w = going_went c e in
             let enough = w.suffices in
@@ -153,23 +153,22 @@ module _ (p : Program) (wide : Bool) (b : ℕ) (t : List ℕ) (r : Ran) (after :
         not_finished never a told-so = lists_by (unfinished b) (listing_unfinished p b (not_going never)) a t' told-so emptied_again
 
 -- ---- a program file
-module _ (wide : Bool) (f : List ℕ) (b : ℕ) (t : List ℕ) (r : FileRead) (e : r ≡ file_read (read_file f)) where
+module _ (wide : Bool) (f : List ℕ) (b : ℕ) (t : List ℕ) (r : Result Program Refused) (e : r ≡ file_read (read_file f)) where
   -- what a listing answers and leaves, where the file is read as y
-  listed_on : (y : FileAnswer) → read_file f ≡ y → (a : Answer) (t' : List ℕ) → a ≡ answer_on wide y b t → t' ≡ table_on wide y b t → ListedIn wide f b t a t'
+  listed_on : (y : FileAnswer) → read_file f ≡ y → (a : Result Answer Refused) (t' : List ℕ) → a ≡ answer_on wide y b t → t' ≡ table_on wide y b t → ListedIn wide f b t a t'
   listed_on y g a t' answer lent =
       record { answer = answer ∙ sym (ap (λ (z : FileAnswer). answer_on wide z b t) g); lent = lent ∙ sym (ap (λ (z : FileAnswer). table_on wide z b t) g) }
 
-  pub file_listed : r.answer ≡ reading.Good → (m : List ℕ) (a : Answer) (t' m' : List ℕ) → ListsOn r.program wide b t m a t' m' → ListedIn wide f b t a t'
-  file_listed h m a t' m' l = listed_on _ (read_good f r e h) a t' l.answer l.lent
+  pub file_listed : {p : Program} → r ≡ Ok p → (m : List ℕ) (a : Answer) (t' m' : List ℕ) → ListsOn p wide b t m a t' m' → ListedIn wide f b t (Ok a) t'
+  file_listed h m a t' m' l = listed_on _ (read_good _ r e h) (Ok a) t' (ap Ok l.answer) l.lent
 
-  pub file_refused : (n place : ℕ) → r.answer ≡ reading.Refused n place → (a : Answer) → a ≡ nothing_listed (Refused n place) 0 → ListedIn wide f b t a t
-  file_refused n place h a q = listed_on _ (read_refused f r e n place h).0 a t q refl
+  pub file_refused : {d : Refused} → r ≡ Err d → (a : Result Answer Refused) → a ≡ Err d → ListedIn wide f b t a t
+  file_refused h a q = listed_on _ (read_refused _ r e h) a t q refl
 
-module _ (f : List ℕ) (b : ℕ) (t m : List ℕ) (r : FileRead) (e : r ≡ file_read (read_file f)) where
-  pub within_listed : r.answer ≡ reading.Good → (a : Answer) (t' m' : List ℕ) → ListsOn r.program true b t m a t' m' → ListedWithin f b t m a t' m'
+module _ (f : List ℕ) (b : ℕ) (t m : List ℕ) (r : Result Program Refused) (e : r ≡ file_read (read_file f)) where
+  pub within_listed : {p : Program} → r ≡ Ok p → (a : Answer) (t' m' : List ℕ) → ListsOn p true b t m a t' m' → ListedWithin f b t m (Ok a) t' m'
   within_listed h a t' m' l =
-      record { listed = file_listed true f b t r e h m a t' m' l; lent_machines = l.lent_machines ∙ sym (ap (λ (z : FileAnswer). machines_on z m) (read_good f r e h)) }
+      record { listed = file_listed true f b t r e h m a t' m' l; lent_machines = l.lent_machines ∙ sym (ap (λ (z : FileAnswer). machines_on z m) (read_good _ r e h)) }
 
-  pub within_refused : (n place : ℕ) → r.answer ≡ reading.Refused n place → (a : Answer) → a ≡ nothing_listed (Refused n place) 0 → ListedWithin f b t m a t m
-  within_refused n place h a q =
-      record { listed = file_refused true f b t r e n place h a q; lent_machines = sym (ap (λ (z : FileAnswer). machines_on z m) (read_refused f r e n place h).0) }
+  pub within_refused : {d : Refused} → r ≡ Err d → (a : Result Answer Refused) → a ≡ Err d → ListedWithin f b t m a t m
+  within_refused h a q = record { listed = file_refused true f b t r e h a q; lent_machines = sym (ap (λ (z : FileAnswer). machines_on z m) (read_refused _ r e h)) }

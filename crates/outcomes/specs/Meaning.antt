@@ -1,8 +1,10 @@
 -- What an answer of the listing means, over the list of all accepted sequences: what is demanded of it, the lent table, the trace to each outcome, and what it says of the question.
 -- Assumes nothing.
-use Rattle.std.specs.Prelude.{◌≡◌, Bool, true, false, List, [], ℕ, ◌-◌, ◌≤◌, length, get_or}
+use Rattle.std.specs.Prelude.{◌≡◌, Bool, true, false, List, [], ℕ, ◌-◌, ◌≤◌, length, get_or, Result, Ok, Err}
 use Rattle.program.specs.declared.Program.{Program}
 use Rattle.program.specs.File.{refused, program, read_file}
+use Rattle.program.specs.declared.Refusal.{Refusal}
+use Rattle.program.specs.declared.Refused.{Refused}
 use Rattle.machine.specs.State.{fresh}
 use Rattle.theory_sequences.specs.Sequences.{Among, Listed}
 use Rattle.theory_sequences.specs.Answer.{allowed, forbidden}
@@ -10,15 +12,14 @@ use Rattle.theory_sequences.specs.Listing.{Entry, Listing, finished, ListingDema
 use Rattle.step.specs.Step.{Step}
 use Rattle.step.specs.Outcome.{outcome, smaller, satisfies}
 use Rattle.trace_record.specs.Trace.{trace_bytes}
-use Rattle.trace_replay.specs.declared.ReplayAnswer.TheVariants.{Good}
 use Rattle.trace_replay.specs.Answers.{replay}
 use Rattle.search_sequences.specs.OfProgram.{stepping, answer_to, ending_of}
 use Rattle.search_outcomes.specs.Rows.{capacity}
-use Rattle.outcomes.specs.Answers.{Refused, Answer, nothing_listed, answer_of, table_of}
+use Rattle.outcomes.specs.Answers.{Answer, answer_of, table_of}
 
 -- the trace of the sequence q, replayed on the file, is good and complete, and ends with the outcome o
 pub record Reaches (f : List ℕ) (p : Program) (q : List Step) (o : List ℕ) : Type 0 where
-  pub good : (replay f (trace_bytes q)).answer ≡ Good
+  pub good : (replay f (trace_bytes q)).answer ≡ Ok tt
   pub steps : (replay f (trace_bytes q)).steps ≡ length q
   pub complete : (replay f (trace_bytes q)).complete ≡ true
   pub ends : outcome p (replay f (trace_bytes q)).machine ≡ o
@@ -50,8 +51,8 @@ pub record Told (wide : Bool) (f : List ℕ) (p : Program) (b : ℕ) (t : List �
   pub asks : (n : ℕ) (e : List (Entry (List ℕ))) → listing ≡ finished n e → Asks p b n e
 
 -- THE MEANING of an answer to a file
-pub data Means (wide : Bool) (f : List ℕ) (b : ℕ) (t : List ℕ) (r : Answer) (after : List ℕ) : Type 0 where
-  -- the file is refused: its number and place, and nothing is written
-  bad_file : (n place : ℕ) → read_file f ≡ refused n place → r ≡ nothing_listed (Refused n place) 0 → after ≡ t → Means wide f b t r after
+pub data Means (wide : Bool) (f : List ℕ) (b : ℕ) (t : List ℕ) (r : Result Answer Refused) (after : List ℕ) : Type 0 where
+  -- the file is refused: the refusal and its place, and nothing is written
+  bad_file : (n : Refusal) (place : ℕ) → read_file f ≡ refused n place → r ≡ Err (record { refusal = n; place = place }) → after ≡ t → Means wide f b t r after
   -- the listing has run
-  listed : (p : Program) → read_file f ≡ program p → Told wide f p b t r after → Means wide f b t r after
+  listed : (p : Program) → read_file f ≡ program p → (a : Answer) → r ≡ Ok a → Told wide f p b t a after → Means wide f b t r after

@@ -7,24 +7,24 @@ ghost use Rattle.outcomes.specs.Answers.{nothing_listed, Listed, ListedWithin};
 ghost use Rattle.outcomes.specs.Inner.{ListsOn};
 
 use encode_bytes::clear_front;
-use file_reader::{ReadAnswer, read};
+use file_reader::read;
 use machine::machines::fresh;
-use program::Program;
+use program::{Program, Refused};
 use search_arrivals::{Aim, Ran};
 use search_outcomes::row_width;
 use search_table::clear;
 use search_visits::visit;
 
-// A refusal has its number and place.
+// Too many: there are more outcomes than the table has entries.
 #[derive(Clone, Copy)]
 pub enum Verdict {
     Finished,
+    TooMany,
     NotFinished,
-    Refused(u8, usize),
 }
 
-// The count is the number of all sequences, also where there are more outcomes than entries (40), or the budget; the number is that
-// of the outcomes, 0 unless finished.
+// The count is the number of all sequences, also where there are too many outcomes, or the budget; the number is that of the outcomes,
+// 0 unless finished.
 #[derive(Clone, Copy)]
 pub struct Answer {
     pub verdict: Verdict,
@@ -79,7 +79,7 @@ fn list_program(
             };
         }
         clear_front(table, w * room);
-        return nothing_listed(Verdict::Refused(40, 0), budget - rest);
+        return nothing_listed(Verdict::TooMany, budget - rest);
     }
     clear_front(table, w * room);
     nothing_listed(Verdict::NotFinished, budget)
@@ -87,26 +87,23 @@ fn list_program(
 
 // The listing with a table of machines that is lent to it, of any length: the same answer, the sooner the longer the table. Entries
 // have places of 64 bits.
-pub fn outcomes_within(file: &[u8], budget: u64, table: &mut [u8], machines: &mut [u8]) -> Answer
+pub fn outcomes_within(
+    file: &[u8],
+    budget: u64,
+    table: &mut [u8],
+    machines: &mut [u8],
+) -> Result<Answer, Refused>
     ensures { ListedWithin file.now budget table.old machines.old result table.new machines.new }
 {
-    let f = read(file);
-    let answer = f.answer;
-    match answer {
-        ReadAnswer::Good => list_program(f.program, budget, true, table, machines),
-        ReadAnswer::Refused(number, place) => { nothing_listed(Verdict::Refused(number, place), 0) }
-    }
+    let p = read(file)?;
+    Ok(list_program(p, budget, true, table, machines))
 }
 
 // The plain listing: without a table of machines, and with budget and places of 32 bits.
-pub fn outcomes(file: &[u8], budget: u32, table: &mut [u8]) -> Answer
+pub fn outcomes(file: &[u8], budget: u32, table: &mut [u8]) -> Result<Answer, Refused>
     ensures { Listed file.now budget table.old result table.new }
 {
     let mut none = [0u8; 0];
-    let f = read(file);
-    let answer = f.answer;
-    match answer {
-        ReadAnswer::Good => list_program(f.program, budget as u64, false, table, &mut none),
-        ReadAnswer::Refused(number, place) => { nothing_listed(Verdict::Refused(number, place), 0) }
-    }
+    let p = read(file)?;
+    Ok(list_program(p, budget as u64, false, table, &mut none))
 }

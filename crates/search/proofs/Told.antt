@@ -6,9 +6,8 @@ use Prim.Native.Nat.{ℕ, ◌+◌, ◌-◌, ◌*◌, ◌≤◌, ◌<◌}
 use native.Mathlib.Omega.{arith}
 use lib.ListN.{length, drop}
 use borrow.Author.Tests.{lt-ltb, le-ltb}
-use Rattle.program.specs.declared.FileRead.{FileRead}
+use Rattle.std.specs.Prelude.{Result, Ok, Err}
 use Rattle.program.specs.declared.Program.{Program}
-use Rattle.program.specs.declared.ReadAnswer.TheVariants as reading
 use Rattle.program.specs.Counts.{size}
 use Rattle.program.specs.File.{FileAnswer, read_file}
 use Rattle.program.specs.Answers.{file_read}
@@ -21,7 +20,9 @@ use Rattle.theory_sequences.specs.Scan.{Scan, going, found, out, scan, told, not
 use Rattle.step.specs.Step.{Step}
 use Rattle.trace_record.specs.Trace.{trace_bytes}
 use Rattle.step.proofs.Bound.{potential_fresh}
-use Rattle.trace_replay.proofs.Files.{read_good, read_refused}
+use Rattle.program.proofs.Answered.{read_good, read_refused}
+use Rattle.program.specs.declared.Refusal.TheVariants.{ShortArea}
+use Rattle.program.specs.declared.Refused.{Refused}
 use Rattle.search_sequences.specs.OfProgram.{stepping, sequences_of, answer_to}
 use Rattle.search.specs.Answers.{Allowed, Forbidden, NotFinished, Answer, answer_of, area_of, refusal, answer_on, area_on, SearchedWithin, cleared, table_on}
 use Rattle.search.specs.Inner.{AnswersOn}
@@ -91,21 +92,21 @@ module _ (p : Program) (b : ℕ) (r : Ran) (old sheet new sheet' : List ℕ) (t 
   told_unfinished e = subst (λ (a : Ran). AnswersOn p b (ended a) old new) e told_is
 
 -- ---- a program file
-module _ (f : List ℕ) (b : ℕ) (area table : List ℕ) (r : FileRead) (e : r ≡ file_read (read_file f)) where
+module _ (f : List ℕ) (b : ℕ) (area table : List ℕ) (r : Result Program Refused) (e : r ≡ file_read (read_file f)) where
   -- what a search answers and leaves, where the file is read as y
-  told_on : (y : FileAnswer) → read_file f ≡ y → (a : Answer) (new table' : List ℕ) → a ≡ answer_on y b area → new ≡ area_on y b area → table' ≡ table_on y area table → SearchedWithin f b area table a new table'
+  told_on : (y : FileAnswer) → read_file f ≡ y → (a : Result Answer Refused) (new table' : List ℕ) → a ≡ answer_on y b area → new ≡ area_on y b area → table' ≡ table_on y area table → SearchedWithin f b area table a new table'
   told_on y g a new table' answer lent lent_table =
       record {
         searched = record { answer = answer ∙ sym (ap (λ (z : FileAnswer). answer_on z b area) g); lent = lent ∙ sym (ap (λ (z : FileAnswer). area_on z b area) g) };
         lent_table = lent_table ∙ sym (ap (λ (z : FileAnswer). table_on z area table) g);
       }
 
-  pub area_short : r.answer ≡ reading.Good → length area < 480 → (a : Answer) → a ≡ refusal 30 0 → SearchedWithin f b area table a area table
-  area_short h l a q = told_on _ (read_good f r e h) a area table (q ∙ rw (lt-ltb (length area) 480 l)) (rw (lt-ltb (length area) 480 l)) (rw (lt-ltb (length area) 480 l))
+  pub area_short : {p : Program} → r ≡ Ok p → length area < 480 → (a : Result Answer Refused) → a ≡ refusal ShortArea 0 → SearchedWithin f b area table a area table
+  area_short h l a q = told_on _ (read_good _ r e h) a area table (q ∙ rw (lt-ltb (length area) 480 l)) (rw (lt-ltb (length area) 480 l)) (rw (lt-ltb (length area) 480 l))
 
-  pub area_long : r.answer ≡ reading.Good → 480 ≤ length area → (a : Answer) (new table' : List ℕ) → AnswersOn r.program b a area new → table' ≡ cleared table → SearchedWithin f b area table a new table'
+  pub area_long : {p : Program} → r ≡ Ok p → 480 ≤ length area → (a : Answer) (new table' : List ℕ) → AnswersOn p b a area new → table' ≡ cleared table → SearchedWithin f b area table (Ok a) new table'
   area_long h l a new table' q c =
-      told_on _ (read_good f r e h) a new table' (q.answer ∙ rw (le-ltb (length area) 480 l)) (q.lent ∙ rw (le-ltb (length area) 480 l)) (c ∙ rw (le-ltb (length area) 480 l))
+      told_on _ (read_good _ r e h) (Ok a) new table' (ap Ok q.answer ∙ rw (le-ltb (length area) 480 l)) (q.lent ∙ rw (le-ltb (length area) 480 l)) (c ∙ rw (le-ltb (length area) 480 l))
 
-  pub file_refused : (n place : ℕ) → r.answer ≡ reading.Refused n place → (a : Answer) → a ≡ refusal n place → SearchedWithin f b area table a area table
-  file_refused n place h a q = told_on _ (read_refused f r e n place h).0 a area table q refl refl
+  pub file_refused : {d : Refused} → r ≡ Err d → (a : Result Answer Refused) → a ≡ Err d → SearchedWithin f b area table a area table
+  file_refused h a q = told_on _ (read_refused _ r e h) a area table q refl refl

@@ -3,23 +3,21 @@
 
 ghost use Rattle.std.specs.Prelude.{◌≡◌, ◌≤◌, T, length};
 ghost use Rattle.program.specs.WellFormed.{program_test};
-ghost use Rattle.search.specs.Answers.{refusal, Searched, SearchedWithin, cleared};
+ghost use Rattle.search.specs.Answers.{Searched, SearchedWithin, cleared};
 ghost use Rattle.search.specs.Inner.{AnswersOn};
 
-use file_reader::{ReadAnswer, read};
+use file_reader::read;
 use machine::machines::fresh;
-use program::Program;
+use program::{Program, Refusal, Refused};
 use search_arrivals::{Aim, Ran};
 use search_table::clear;
 use search_visits::visit;
 
-// A refusal has its number and place.
 #[derive(Clone, Copy)]
 pub enum Verdict {
     Allowed,
     Forbidden,
     NotFinished,
-    Refused(u8, usize),
 }
 
 // The count is the place of the sequence found, or the number of all, or the budget; the steps are those of the trace, 0 unless allowed.
@@ -28,16 +26,6 @@ pub struct Answer {
     pub verdict: Verdict,
     pub count: u64,
     pub steps: usize,
-}
-
-fn refusal(number: u8, place: usize) -> Answer
-    ensures { result ≡ refusal number place }
-{
-    Answer {
-        verdict: Verdict::Refused(number, place),
-        count: 0,
-        steps: 0,
-    }
 }
 
 // The search on a program that is well formed, with an area that has room for every trace. The table may hold anything before.
@@ -79,24 +67,23 @@ fn search_program(p: Program, budget: u64, area: &mut [u8], table: &mut [u8]) ->
 
 // The search with a table that is lent to it, of any length: the same answer, the sooner the longer the table. A refused search
 // leaves the table as it was, any other leaves it all 0.
-pub fn search_within(file: &[u8], budget: u64, area: &mut [u8], table: &mut [u8]) -> Answer
+pub fn search_within(
+    file: &[u8],
+    budget: u64,
+    area: &mut [u8],
+    table: &mut [u8],
+) -> Result<Answer, Refused>
     ensures { SearchedWithin file.now budget area.old table.old result area.new table.new }
 {
-    let f = read(file);
-    let answer = f.answer;
-    match answer {
-        ReadAnswer::Good => {
-            if area.len() < 480 {
-                return refusal(30, 0);
-            }
-            search_program(f.program, budget, area, table)
-        }
-        ReadAnswer::Refused(number, place) => refusal(number, place),
+    let p = read(file)?;
+    if area.len() < 480 {
+        return Err(Refusal::ShortArea.at(0));
     }
+    Ok(search_program(p, budget, area, table))
 }
 
 // The plain search: without a table, and with a budget of 32 bits.
-pub fn search(file: &[u8], budget: u32, area: &mut [u8]) -> Answer
+pub fn search(file: &[u8], budget: u32, area: &mut [u8]) -> Result<Answer, Refused>
     ensures { Searched file.now budget area.old result area.new }
 {
     let mut none = [0u8; 0];

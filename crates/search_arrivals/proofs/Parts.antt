@@ -6,6 +6,7 @@ use mathlib.Core.List.{List, [], ◌∷◌, ◌++◌}
 use mathlib.Core.Option.{none, some}
 use Prim.Native.Nat.{ℕ, ◌-◌, ◌<◌}
 use Rattle.program.specs.declared.Program.{Program}
+use Rattle.program.specs.declared.Refusal.{Refusal}
 use Rattle.machine.specs.declared.Machine.{Machine}
 use Rattle.theory_sequences.specs.Sequences.{Among}
 use Rattle.theory_sequences.proofs.Scan as scans
@@ -49,7 +50,7 @@ module _ (p : Program) (a : Aim) (x : Machine) where
   two_parts ks ls b n = scans.ahead_append (stepping p) (lawful p) (acts p a) x ks ls b n
 
   -- a refused step costs nothing
-  pub step_refused : (k : Step) (r b : ℕ) (n : Notes) → step p x k ≡ rejected r → trying p a x (k ∷ []) b n ≡ going b n
+  pub step_refused : (k : Step) (r : Refusal) (b : ℕ) (n : Notes) → step p x k ≡ rejected r → trying p a x (k ∷ []) b n ≡ going b n
   step_refused k r b n e = trying_is (k ∷ []) b n ∙ scans.ahead_refused (stepping p) (lawful p) (acts p a) x k [] b n (ap taken e) ∙ scans.ahead_end (stepping p) (lawful p) (acts p a) x b n
 
   then_nothing : (k : Step) (o : Scan Step Notes) → and_then (under k o) (λ c m. ahead (stepping p) (lawful p) (acts p a) x [] c m) ≡ under k o

@@ -19,6 +19,7 @@ use Rattle.machine.specs.State.{thread_of}
 use Rattle.program.specs.Program.{code_of}
 use Rattle.program.proofs.Tests.{and_left, below_at}
 use Rattle.program.proofs.Shape.{program_iff}
+use Rattle.program.specs.declared.Refusal.{Refusal}
 use Rattle.machine.specs.Inner.{Formed}
 use Rattle.certify_runs.proofs.Ready.{program_facts}
 use Rattle.encode_bytes.specs.Places.{put}
@@ -120,7 +121,7 @@ module _ (p : Program) (a : Aim) (x : Machine) where
           (ap (λ (q : List Step). trying p a x q rest n) (next_step (step_numbered i) 4113 k l) ∙ two_parts p a x (step_numbered i k ∷ []) (steps_from (step_numbered i) 4113 (k + 1)) rest n)
           ∙ then_then (trying p a x (step_numbered i k ∷ []) rest n) (λ b m. trying p a x (steps_from (step_numbered i) 4113 (k + 1)) b m) (λ b m. trying p a x (threads_from (i + 1)) b m)
 
-      pub refused_on : (r : ℕ) → step p x (step_numbered i k) ≡ rejected r → BeforeStep whole i (k + 1) rest n
+      pub refused_on : (r : Refusal) → step p x (step_numbered i k) ≡ rejected r → BeforeStep whole i (k + 1) rest n
       unfolding rest_of
       refused_on r e = at_step ∙ ap (λ (o : Scan Step Notes). and_then o rest_of) (step_refused p a x (step_numbered i k) r rest n e)
 

@@ -9,6 +9,7 @@ use Rattle.program.specs.declared.Program.{Program}
 use Rattle.program.specs.Counts.{size}
 use Rattle.program.specs.WellFormed.{program_test}
 use Rattle.program.proofs.Tests.{and_both}
+use Rattle.program.specs.declared.Refusal.TheVariants.{NotWellFormed}
 use Rattle.machine.specs.declared.Machine.{Machine}
 use Rattle.machine.specs.State.{fresh}
 use Rattle.machine.specs.WellFormed.{machine_test}
@@ -32,7 +33,7 @@ quick p b = told b (hunt (stepped_by (stepping p) (rule_next p)) {N = Unit {0}} 
 
 by_rules : (p : Program) → T (program_test p) → (x : Machine) (k : Step) → T (machine_test p x) → taken (step p x k) ≡ rule_next p x k
 unfolding step
-by_rules p h x k m = ap taken (check_yes (program_test p && machine_test p x) 20 (rule_step p x k) (and_both (program_test p) (machine_test p x) h m))
+by_rules p h x k m = ap taken (check_yes (program_test p && machine_test p x) NotWellFormed (rule_step p x k) (and_both (program_test p) (machine_test p x) h m))
 
 -- THE QUICK ANSWER IS THE ANSWER
 pub quick_is : (p : Program) → T (program_test p) → (b : ℕ) → quick p b ≡ answer_to p b

@@ -7,6 +7,7 @@ use mathlib.Core.Option.{none, some}
 use Prim.Native.Nat.{ℕ, zero, suc, ◌+◌, ◌≤◌}
 use lib.Dec.{T, eqb}
 use borrow.Author.Tests.{eq-eqb, ne_eqb}
+use Rattle.std.specs.Prelude.{Ok, Err}
 use Rattle.program.specs.declared.Code.{Code}
 use Rattle.program.specs.declared.Operand.{Operand}
 use Rattle.program.specs.declared.LoadMode.{LoadMode}
@@ -14,6 +15,7 @@ use Rattle.program.specs.declared.Instr.{Instr}
 use Rattle.program.specs.declared.Instr.TheVariants.{Load}
 use Rattle.program.specs.declared.Program.{Program}
 use Rattle.program.specs.Program.{instr_at}
+use Rattle.program.specs.declared.Refusal.TheVariants.{NotCertified}
 use Rattle.machine.specs.declared.Memory.{Memory}
 use Rattle.machine.specs.declared.Thread.{Thread}
 use Rattle.machine.specs.declared.Machine.{Machine}
@@ -31,10 +33,9 @@ use Rattle.certify.proofs.Reaching.{found_twice, found_certified}
 use Rattle.search_promises.proofs.Law.{same_run}
 use Rattle.step.specs.Step.{step, taken}
 use Rattle.step.specs.Order.{execution}
-use Rattle.step.specs.declared.StepAnswer.TheVariants.{Taken, Refused}
 use Rattle.step.specs.Inner.{Here, Settles}
 use Rattle.step.proofs.Stepping.{settle_yes, settle_no}
-use Rattle.search_tries.specs.Worthwhile.{Attempts, Attempted, timely, answer_only, Worth, Beaten, Narrowed}
+use Rattle.search_tries.specs.Worthwhile.{Attempts, Attempted, timely, Worth, Beaten, Narrowed}
 use Rattle.search_tries.proofs.Refused.{not_certified}
 
 -- nothing is ruled out
@@ -59,16 +60,11 @@ module _ (c : Code) (i : ℕ) (m : Memory) (y : Thread) (r : Reached) (found : F
   is_certified : eqb r.met.least 0 ≡ certified c i m y
   is_certified = found_certified c i m y r.met (found_twice _ _ _ _ _ found)
 
-  pub found_settles : r.met.least ≡ 0 → Settles c i m y (record { answer = Taken; thread = y })
-  found_settles z = settle_yes c i m y _ is_certified (eq-eqb _ _ z) _ refl
+  pub found_settles : r.met.least ≡ 0 → Settles c i m y (Ok y)
+  found_settles z = settle_yes c i m y _ is_certified (eq-eqb _ _ z)
 
-  pub lost_settles : (r.met.least ≡ 0 → ⊥) → Settles c i m y (record { answer = Refused 29; thread = y })
-  lost_settles n = settle_no c i m y _ is_certified (ne_eqb _ _ n) _ refl
-
--- a step that is taken leaves what is worth a try as it is
-pub took_settles : (c : Code) (i : ℕ) (m : Memory) (s y : Thread) (t : Attempts) (r : Attempted) → r ≡ record { answer = Taken; thread = y; left = t }
-    → Settles c i m y (record { answer = Taken; thread = y }) → Worth c m s t → Settles c i m y (answer_only r) × Worth c m s r.left
-took_settles c i m s y t r e q w = subst (λ (o : Attempted). Settles c i m y (answer_only o) × Worth c m s o.left) (sym e) (q, w)
+  pub lost_settles : (r.met.least ≡ 0 → ⊥) → Settles c i m y (Err NotCertified)
+  lost_settles n = settle_no c i m y _ is_certified (ne_eqb _ _ n)
 
 -- ---- a load that left the thread uncertified
 module _ (c : Code) (m : Memory) (s : Thread) (x : Instr) (is_next : instr_at c s.position ≡ some x) (room : m.count ≤ 16)

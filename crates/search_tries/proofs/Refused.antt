@@ -20,6 +20,7 @@ use Rattle.machine.specs.Rules.{Executed, refused, next, execute}
 use Rattle.machine.specs.WellFormed.{machine_test}
 use Rattle.machine.proofs.Formed.{MachineOk}
 use Rattle.program.proofs.Formed.{ProgramOk}
+use Rattle.program.specs.declared.Refusal.TheVariants.{NotWellFormed, NoThread, StepKind, NotCertified}
 use Rattle.certify_runs.specs.Certify.{certified}
 use Rattle.certify_runs.proofs.Fit.{promises_fit}
 use Rattle.certify_runs.specs.Inner.{Sound}
@@ -46,7 +47,7 @@ module _ (p : Program) (x : Machine) where
   pub by_kind : (k : Step) (y : Machine) → step p x k ≡ accepted y → (k.thread < p.threads) × (kind_step p x k k.kind ≡ accepted y)
   unfolding step rule_step
   by_kind k y e =
-      let q = check_passed (ltb k.thread p.threads) 21 _ y (check_passed (program_test p && machine_test p x) 20 _ y e).1 in
+      let q = check_passed (ltb k.thread p.threads) NoThread _ y (check_passed (program_test p && machine_test p x) NotWellFormed _ y e).1 in
       (ltb→lt k.thread p.threads q.0, q.1)
 
   too_many : (n : ℕ) → ProgramOk p → MachineOk p x → {k : Step} {y : Machine} → Did p x k y → k.kind ≡ 1 → n ≡ k.thread
@@ -73,7 +74,7 @@ module _ (p : Program) (x : Machine) where
     -- ---- times
     by_instruction : (t : ℕ) (y : Machine) → step p x (execution i t) ≡ accepted y → execute_instr p x i t (instr_at (code_of p i) (thread_of x i).position) ≡ accepted y
     unfolding kind_step execute_step
-    by_instruction t y e = (check_passed (eqb 0 0) 22 _ y (by_kind (execution i t) y e).1).1
+    by_instruction t y e = (check_passed (eqb 0 0) StepKind _ y (by_kind (execution i t) y e).1).1
 
     -- a thread at its end executes nothing
     pub no_instruction_lem : (t : ℕ) → (code_of p i).count ≤ (thread_of x i).position → taken (step p x (execution i t)) ≡ none
@@ -85,7 +86,7 @@ module _ (p : Program) (x : Machine) where
     -- a thread that has settled is certified
     has_settled : (y : Machine) (s : Thread) → settle p x i x.memory s ≡ accepted y → T (certified (code_of p i) i x.memory s)
     unfolding settle
-    has_settled y s f = (check_passed (certified (code_of p i) i x.memory s) 29 _ y f).0
+    has_settled y s f = (check_passed (certified (code_of p i) i x.memory s) NotCertified _ y f).0
 
     -- at a time after which the thread is not certified
     pub not_certified : (c : Instr) → instr_at (code_of p i) (thread_of x i).position ≡ some c → (t : ℕ)

@@ -10,11 +10,13 @@ use native.Mathlib.Omega.{arith}
 use lib.Count.{ones}
 use lib.Dec.{T, ltb}
 use borrow.Author.Tests.{lt-ltb, le-ltb, ltb-true}
+use Rattle.std.specs.Prelude.{Result}
 use Rattle.program.specs.declared.Code.{Code}
 use Rattle.program.specs.declared.Instr.{Instr}
 use Rattle.program.specs.declared.Program.{Program}
 use Rattle.program.specs.Program.{instr_at}
 use Rattle.program.specs.Counts.{stores_from}
+use Rattle.program.specs.declared.Refusal.{Refusal}
 use Rattle.machine.specs.declared.Memory.{Memory}
 use Rattle.machine.specs.declared.Thread.{Thread}
 use Rattle.machine.specs.declared.Machine.{Machine}
@@ -29,7 +31,6 @@ use Rattle.search_promises.specs.Explored.{Fillable}
 use Rattle.search_promises.proofs.Kept.{reached_law}
 use Rattle.step.specs.Step.{Step, step, taken}
 use Rattle.step.specs.Order.{execution}
-use Rattle.step.specs.declared.Moved.{Moved}
 use Rattle.step.specs.Inner.{Here, PromisesKept, Moves}
 use Rattle.step.proofs.Stepping.{kind_promise}
 use Rattle.search_sequences.specs.Numbers.{key_promise}
@@ -189,7 +190,7 @@ module _ (c : Code) (m : Memory) (s : Thread) where
   ])
 
   -- and leaves the thread certified
-  pub promise_kept : (k : Step) → k.kind ≡ 1 → Sound m s → Keepable c m s k → k.b < 256 → (r : Moved) → PromisesKept k.thread m s k.a k.b r → Moves c m s k r
+  pub promise_kept : (k : Step) → k.kind ≡ 1 → Sound m s → Keepable c m s k → k.b < 256 → (r : Result Thread Refusal) → PromisesKept k.thread m s k.a k.b r → Moves c m s k r
   promise_kept k e ok q byte r h =
       let z = q e in
       kind_promise c m s k r e byte (h c (reached_law c k.thread k.a k.b m s ok byte z.1 z.2))

@@ -18,7 +18,6 @@ use Rattle.certify_vain.specs.Tries.{NoBetter}
 use Rattle.step.specs.Step.{Step, step, taken}
 use Rattle.step.specs.Order.{execution}
 use Rattle.step.specs.Inner.{Here}
-use Rattle.step.specs.declared.Moved.{Moved}
 use Rattle.search_sequences.specs.Numbers.{key_promise}
 use Rattle.search_promises.specs.Explored.{Fillable}
 use Rattle.search_tries.specs.Steps.{step_numbered, NextStep}
@@ -50,10 +49,6 @@ pub record Narrowed (t : Attempts) (x : Instr) (m : Memory) (s : Thread) (time :
   pub same_zero : r.zero ≡ t.zero
   pub beaten : (u : ℕ) → T (has t.later u) → has r.later u ≡ false → Beaten x m s time cares u
   pub same_promises : r.promises ≡ t.promises
-
--- the step's answer, without what is left to try
-abbrev pub answer_only : Attempted → Moved
-answer_only r = record { answer = r.answer; thread = r.thread }
 
 -- the first time from k on that is worth a try, or 17
 pub record NextTime (t : Attempts) (k r : ℕ) : Type 0 where

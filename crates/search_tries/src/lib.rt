@@ -8,12 +8,11 @@ ghost use Rattle.std.specs.Prelude.{◌≡◌, ◌+◌, ◌≤◌, ◌<◌};
 ghost use Rattle.std.proofs.Math.Option.{some};
 ghost use Rattle.program.specs.Program.{instr_at};
 ghost use Rattle.machine.specs.Rules.{next, execute};
-ghost use Rattle.step.specs.declared.StepAnswer.TheVariants.{Taken};
 ghost use Rattle.step.specs.Inner.{Settles, Executes, Moves};
 ghost use Rattle.step.specs.Order.{execution, promise};
 ghost use Rattle.certify_runs.specs.Inner.{Ready, Sound};
 ghost use Rattle.search_tries.specs.Steps.{step_numbered, NextStep, Numbered};
-ghost use Rattle.search_tries.specs.Worthwhile.{answer_only, Worth, Narrowed, NextTime, Foreseen, Keepable};
+ghost use Rattle.search_tries.specs.Worthwhile.{Worth, Narrowed, NextTime, Foreseen, Keepable};
 
 use certify::reach::search_runs;
 use certify_ahead::fewer_stores;
@@ -21,13 +20,13 @@ use certify_cares::Cares;
 use certify_sought::Sought;
 use certify_vain::passed_over;
 use machine::promises::is_empty;
-use machine::{Memory, RuleAnswer, Thread};
-use program::{Code, Instr};
+use machine::{Memory, Thread};
+use program::{Code, Instr, Refusal};
 use rules::execute;
 use rules::operands::{address_of_sum, value_of};
 use rules_times::{after, at_zero, later_times};
 use search_promises::next_reached;
-use step::{StepAnswer, TraceStep, promise_kept};
+use step::{TraceStep, promise_kept};
 
 // What is worth a try of a thread: its next instruction at time 0 and at the times of a set, and promises.
 #[derive(Clone, Copy)]
@@ -44,11 +43,10 @@ pub struct Ahead {
     pub then: u16,
 }
 
-// The answer of a step of one thread; taken, the thread after it; and what is worth a try of it then.
+// A step tried of one thread: its next state, or why it is refused; and what is worth a try of it then.
 #[derive(Clone, Copy)]
 pub struct Attempted {
-    pub answer: StepAnswer,
-    pub thread: Thread,
+    pub moved: Result<Thread, Refusal>,
     pub left: Attempts,
 }
 
@@ -197,17 +195,6 @@ fn narrowed(t: Attempts, x: Instr, m: Memory, s: Thread, time: u8, k: Cares) -> 
     }
 }
 
-// The step is taken.
-fn took(s: Thread, t: Attempts) -> Attempted
-    ensures { result ≡ record { answer = Taken; thread = s; left = t } }
-{
-    Attempted {
-        answer: StepAnswer::Taken,
-        thread: s,
-        left: t,
-    }
-}
-
 // Thread i, which x at a time has brought from s to y, if it is certified there. If not, what that rests on rules out other times.
 fn settled(
     t: Attempts,
@@ -220,19 +207,22 @@ fn settled(
     y: Thread,
 ) -> Attempted
     requires { Ready c m y × (instr_at c s.position ≡ some x) × (execute x m time s ≡ next y) × Worth c m s t }
-    ensures { Settles c i m y (answer_only result) × Worth c m s result.left }
+    ensures { Settles c i m y result.moved × Worth c m s result.left }
 {
+    let taken = Attempted {
+        moved: Ok(y),
+        left: t,
+    };
     if is_empty(y.promises) {
-        return took(y, t);
+        return taken;
     }
     let found = search_runs(c, i, m, y, Sought::certified());
     if found.met.least == 0 {
-        return took(y, t);
+        return taken;
     }
     let rests = found.cares;
     Attempted {
-        answer: StepAnswer::Refused(29),
-        thread: y,
+        moved: Err(Refusal::NotCertified),
         left: narrowed(t, x, m, s, time, rests),
     }
 }
@@ -240,15 +230,12 @@ fn settled(
 // Thread i executes x, its next instruction, at a time. That the rule refuses one time rules out no other.
 fn execute_at(t: Attempts, x: Instr, c: Code, i: u8, m: Memory, s: Thread, time: u8) -> Attempted
     requires { Ready c m s × (instr_at c s.position ≡ some x) × Worth c m s t }
-    ensures { Executes c i m s time (answer_only result) × Worth c m s result.left }
+    ensures { Executes c i m s time result.moved × Worth c m s result.left }
 {
-    let r = execute(x, m, time, s);
-    let answer = r.answer;
-    match answer {
-        RuleAnswer::Done => settled(t, x, c, i, m, s, time, r.thread),
-        RuleAnswer::Refused(k) => Attempted {
-            answer: StepAnswer::Refused(k),
-            thread: s,
+    match execute(x, m, time, s) {
+        Ok(y) => settled(t, x, c, i, m, s, time, y),
+        Err(refusal) => Attempted {
+            moved: Err(refusal),
             left: t,
         },
     }
@@ -259,17 +246,14 @@ fn execute_at(t: Attempts, x: Instr, c: Code, i: u8, m: Memory, s: Thread, time:
 #[inline(never)]
 pub fn attempt(t: Attempts, x: Instr, c: Code, m: Memory, s: Thread, k: TraceStep) -> Attempted
     requires { Ready c m s × (instr_at c s.position ≡ some x) × Numbered k × Sound m s × Keepable c m s k × Worth c m s t }
-    ensures { Moves c m s k (answer_only result) × Worth c m s result.left }
+    ensures { Moves c m s k result.moved × Worth c m s result.left }
 {
     if k.kind == 0 {
         return execute_at(t, x, c, k.thread, m, s, k.a);
     }
-    let r = promise_kept(k.thread, m, s, k.a, k.b);
-    let answer = r.answer;
-    let y = r.thread;
+    let y = promise_kept(k.thread, m, s, k.a, k.b);
     Attempted {
-        answer: answer,
-        thread: y,
+        moved: Ok(y),
         left: t,
     }
 }

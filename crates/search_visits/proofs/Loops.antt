@@ -10,6 +10,7 @@ use native.Mathlib.Omega.{arith}
 use lib.Dec.{ltb}
 use lib.ListN.{length, get_or, set}
 use borrow.Author.Tests.{eqb-false}
+use Rattle.std.specs.Prelude.{Result, Ok, Err}
 use Rattle.program.specs.declared.Code.{Code}
 use Rattle.program.specs.declared.Program.{Program}
 use Rattle.machine.specs.declared.Memory.{Memory}
@@ -19,14 +20,13 @@ use Rattle.machine.specs.State.{fresh_thread, thread_of, append}
 use Rattle.program.specs.Program.{instr_at, code_of}
 use Rattle.program.specs.declared.Instr.{Instr}
 use Rattle.program.proofs.Arrays.{get_d_any}
+use Rattle.program.specs.declared.Refusal.{Refusal}
 use Rattle.certify_runs.specs.Inner as certified
 use Rattle.certify_runs.proofs.Ready.{program_facts, machine_facts, ready_here}
 use Rattle.certify_runs.specs.Inner.{Sound}
 use Rattle.encode_bytes.specs.Places.{put}
 use Rattle.theory_sequences.specs.Scan.{Scan, going, found, out, and_then}
 use Rattle.step.specs.Step.{Step, accepted, rejected, step}
-use Rattle.step.specs.declared.StepAnswer.TheVariants.{Taken, Refused}
-use Rattle.step.specs.declared.Moved.{Moved}
 use Rattle.step.specs.Order.{execution}
 use Rattle.step.specs.Inner.{Here, promised_by, memory_after, Remembers, without_newest, Moves, potential}
 use Rattle.step.proofs.Stepping.{room_taken}
@@ -232,7 +232,7 @@ module _ {p : Program} {a : Aim} {x : Machine} {d : ℕ} {whole : Scan Step Note
         subst (λ (a : Memory). certified.Ready c a s × (instr_at c s.position ≡ some w) × Numbered k' × Sound a s × Keepable c a s k' × Worth c a s t) (sym e)
         (step_ready, U.next_is, is_numbered i k.next k' g, step_sound, keepable c x.memory s i k.next l U.ahead.next_kept k' g, U.worth)
 
-    pub attempted : (n : Memory) → n ≡ x.memory → (k' : Step) (r : Moved) (t' : Attempts) → Moves c n s k' r × Worth c n s t' → Moves c x.memory s k' r × Worth c x.memory s t'
+    pub attempted : (n : Memory) → n ≡ x.memory → (k' : Step) (r : Result Thread Refusal) (t' : Attempts) → Moves c n s k' r × Worth c n s t' → Moves c x.memory s k' r × Worth c x.memory s t'
     attempted n e k' r t' = subst (λ (a : Memory). Moves c a s k' r × Worth c a s t') e
 
     -- what the next try asks, and what it answers
@@ -273,7 +273,7 @@ module _ {p : Program} {a : Aim} {x : Machine} {d : ℕ} {whole : Scan Step Note
           stands = to_next p a x i (k.next + 1) k'.next rest' new U.here (omega arith) nx.0 (subst₂ (BeforeStep p a x whole i (k.next + 1)) (sym f) (sym e) v.stands_then);
         }
 
-    module _ (l : k.next < 4113) (k' : Step) (e : k' ≡ step_numbered i k.next) (r : Moved) (q : Moves c x.memory s k' r) where
+    module _ (l : k.next < 4113) (k' : Step) (e : k' ≡ step_numbered i k.next) (r : Result Thread Refusal) (q : Moves c x.memory s k' r) where
       thread_is : k'.thread ≡ i
       thread_is = ap (λ (y : Step). y.thread) e ∙ step_thread i k.next
 
@@ -283,14 +283,14 @@ module _ {p : Program} {a : Aim} {x : Machine} {d : ℕ} {whole : Scan Step Note
       in_program_too : k'.thread < p.threads
       in_program_too = let h = thread_is in let g = U.in_program in omega arith
 
-      pub is_rejected : (j : ℕ) → r.answer ≡ Refused j → Passed n rest
-      is_rejected j h =
+      pub is_rejected : {j : Refusal} → r ≡ Err j → Passed n rest
+      is_rejected {j} h =
           record {
             ready_then = U.ready;
             long = refl;
             stands_then =
                 refused_on p a x i k.next rest n l U.stands j
-                (subst (λ (y : Step). step p x y ≡ rejected j) e (thread_refused p x U.ready.well k' in_program_too here_too r q j h));
+                (subst (λ (y : Step). step p x y ≡ rejected j) e (thread_refused p x U.ready.well k' in_program_too here_too r q h));
           }
 
       -- the memory with the message of a promise, and the threads as they are
@@ -310,15 +310,15 @@ module _ {p : Program} {a : Aim} {x : Machine} {d : ℕ} {whole : Scan Step Note
         threads = ap (λ (a : Machine). a.threads) is;
       }
 
-      module _ (h : r.answer ≡ Taken) (z : Machine) (v : Promised z) where
+      module _ {s' : Thread} (h : r ≡ Ok s') (z : Machine) (v : Promised z) where
         abbrev y : Machine
-        y = record { memory = z.memory; threads = set z.threads i r.thread }
+        y = record { memory = z.memory; threads = set z.threads i s' }
 
         is_accepted : step p x (step_numbered i k.next) ≡ accepted y
         is_accepted =
             subst (λ (j : Step). step p x j ≡ accepted y) e
             (thread_taken p x U.ready.well k' in_program_too here_too r q h z.memory v.remembers y
-            (λ j. record { memory = z.memory; threads = (ap (λ (l : List Thread). set l i r.thread) v.threads ∙ U.others r.thread ∙ ap (λ (n : ℕ). set x.threads n r.thread) (sym thread_is)) j }))
+            (λ j. record { memory = z.memory; threads = (ap (λ (l : List Thread). set l i s') v.threads ∙ U.others s' ∙ ap (λ (n : ℕ). set x.threads n s') (sym thread_is)) j }))
 
         has_room : (k'.kind ≡ 0) ⊎ (x.memory.count < 16)
         has_room = room_taken p x k' _ r (q p x here_too) h

@@ -11,7 +11,7 @@ use search_outcomes::note;
 use search_table::{SLOT, keep};
 use search_tries::threads::next_open;
 use search_tries::{after_try, attempt, next_try, step_at, tries_of};
-use step::{StepAnswer, memory_after, memory_before};
+use step::{memory_after, memory_before};
 use trace_record::put_step;
 
 // Visits x and each state that an accepted step leads to: by thread, from the first that is not at its end; of one thread
@@ -46,12 +46,10 @@ fn walk(
             let step = step_at(i, k.next);
             let r = attempt(t, w, c, y.memory, s, step);
             t = r.left;
-            let answer = r.answer;
-            if let StepAnswer::Taken = answer {
+            if let Ok(q) = r.moved {
                 if step.kind != 0 {
                     y.memory = memory_after(y.memory, step);
                 }
-                let q = r.thread;
                 y.threads[i as usize] = q;
                 let ran = match arrive(p, y, aim, depth + 1, rest, table) {
                     Arrival::Over(o) => o,

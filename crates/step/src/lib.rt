@@ -3,7 +3,7 @@
 
 mod checked;
 
-ghost use Rattle.std.specs.Prelude.{◌≡◌, ◌+◌, ◌^◌, ◌<◌, ◌≤◌};
+ghost use Rattle.std.specs.Prelude.{◌≡◌, ◌+◌, ◌^◌, ◌<◌, ◌≤◌, Ok};
 ghost use Rattle.std.proofs.Math.Option.{some};
 ghost use Rattle.program.specs.Program.{instr_at};
 ghost use Rattle.machine.specs.State.{with, with_promises};
@@ -95,11 +95,11 @@ fn promise_step(c: Code, i: u8, m: Memory, s: Thread, l: u8, v: u8) -> Result<Th
 }
 
 // The same where the promise is known to leave the thread certified: nothing is left to ask.
-pub fn promise_kept(i: u8, m: Memory, s: Thread, l: u8, v: u8) -> Result<Thread, Refusal>
+pub fn promise_kept(i: u8, m: Memory, s: Thread, l: u8, v: u8) -> Thread
     requires { (l < 16) × ((m.count < 16) × (s.promises < 2 ^ m.count)) }
-    ensures { PromisesKept i m s l v result }
+    ensures { PromisesKept i m s l v (Ok result) }
 {
-    Ok(promised(m, s))
+    promised(m, s)
 }
 
 // The step of a thread that has code c and state s, on memory m.

@@ -1,18 +1,17 @@
 -- `search_tries::settled` meets its contract.
 -- Assumes nothing.
-use mathlib.Core.Path.{refl}
 use native.Mathlib.Omega.{arith}
 use Rattle.machine.proofs.Effects.{effect, effect_time}
 use Rattle.step.proofs.Stepping.{settle_free}
-use Rattle.search_tries.proofs.Beaten.{took_settles, found_settles, lost_settles, narrowed_worth}
+use Rattle.search_tries.proofs.Beaten.{found_settles, lost_settles, narrowed_worth}
 use Rattle.search_tries.proofs.settled.Goals as goal
 
 pub returns-then-is_empty : goal.returns-then-is_empty
-returns-then-is_empty c = took_settles _ _ _ _ _ _ _ c.took.ensures (settle_free _ _ _ _ _ c.is_empty.ensures c.if-is_empty.true _ refl) c.requires.3
+returns-then-is_empty c = (settle_free _ _ _ _ _ c.is_empty.ensures c.if-is_empty.true, c.requires.3)
 
 pub returns-then-found-eq0 : goal.returns-then-found-eq0
 returns-then-found-eq0 c =
-    took_settles _ _ _ _ _ _ _ c.took-then-found-eq0.ensures (found_settles _ _ _ _ _ (rw c.certified.ensures at c.search_runs-found.ensures.found) c.if-found-eq0.true) c.requires.3
+    (found_settles _ _ _ _ _ (rw c.certified.ensures at c.search_runs-found.ensures.found) c.if-found-eq0.true, c.requires.3)
 
 pub narrowed-requires : goal.narrowed-requires
 narrowed-requires c = let l = effect_time (effect _ _ _ _ _ c.requires.2) in let h = c.requires.0.room in omega arith
