@@ -1,11 +1,16 @@
 -- What a call returns and leaves in the area, by the tests that led there.
 -- Assumes nothing.
-use mathlib.Core.Path.{◌≡◌, ap, ap₂, ◌∙◌}
+use mathlib.Core.Path.{◌≡◌, refl, ap, ap₂, ◌∙◌}
 use mathlib.Core.List.{List, [], ◌∷◌, ◌++◌}
 use Prim.Native.Nat.{ℕ, ◌≤◌, ◌<◌}
 use native.Mathlib.Nat.{zero-add}
+use native.Mathlib.Omega.{arith}
 use lib.ListN.{length, drop}
 use borrow.Author.Tests.{lt-ltb, le-ltb, eq-eqb, ne_eqb}
+use Rattle.std.specs.Prelude.{Result, Ok, Err}
+use Rattle.program.specs.declared.Refused.{Refused}
+use Rattle.search.specs.declared.Answer.{Answer}
+use Rattle.encode_numbers.specs.Cases.{search_steps}
 use Rattle.program.specs.declared.Program.{Program}
 use Rattle.machine.specs.declared.Machine.{Machine}
 use Rattle.encode_bytes.specs.Places.{put}
@@ -67,3 +72,8 @@ module _ {R : Type 0} (n : ℕ) (bytes : R → List ℕ) (a a' : List ℕ) (r : 
   pub answer_of_values : {K : Type 0} (f : Program → Machine → K → R) (k : K) (p x : List ℕ) (q : Program) (y : Machine) → length p ≡ 487 → length x ≡ 341 → q ≡ program_of p → y ≡ machine_of x → r ≡ f q y k
       → called 0 a' ≡ on_area n a (on_value 487 p a (on_value 341 x a (with_answer (bytes (f (program_of p) (machine_of x) k)) a)))
   answer_of_values f k p x q y l m ep ex e = wrote _ (e ∙ ap₂ (λ (q : Program) (y : Machine). f q y k) ep ex) ∙ both_fit n p x a _ h l m
+
+-- ---- the steps of a trace, of which there are none where the search is refused
+pub few : (r : Result Answer Refused) → ((a : Answer) → r ≡ Ok a → a.steps ≤ 80) → search_steps r ≤ 80
+few (Ok a) h = h a refl
+few (Err e) h = omega arith

@@ -42,7 +42,7 @@ step_call p x k area =
     on_area 342 area
     (on_value 487 p area
     (on_value 341 x area
-    (with_answer (stepped_bytes (stepped (machine_of x) (step (program_of p) (machine_of x) k))) area)))
+    (with_answer (stepped_bytes (machine_of x) (stepped (step (program_of p) (machine_of x) k))) area)))
 
 unfoldable pub certify_call : List ℕ → List ℕ → ℕ → List ℕ → Called
 certify_call p x i area =

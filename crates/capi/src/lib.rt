@@ -59,7 +59,8 @@ pub extern "C" fn blyskota_step(
         a: a,
         b: b,
     };
-    put_stepped(answer, step(program_of(program), machine_of(machine), k));
+    let x = machine_of(machine);
+    put_stepped(answer, x, step(program_of(program), x, k));
     0
 }
 

@@ -1,61 +1,72 @@
 -- The answers have the lengths that the calls test for.
 -- Assumes nothing.
 use mathlib.Core.Path.{◌≡◌, refl, ◌∙◌}
-use mathlib.Core.List.{◌++◌}
+use mathlib.Core.List.{[], ◌++◌}
+use Prim.Native.Nat.{ℕ}
 use native.Mathlib.Omega.{arith}
 use lib.ListN.{length, length-append}
-use Rattle.program.specs.declared.FileRead.{FileRead}
+use Rattle.std.specs.Prelude.{Option, Some, None, Result, Ok, Err}
+use Rattle.program.specs.declared.Program.{Program}
+use Rattle.program.specs.declared.Refusal.{Refusal}
+use Rattle.program.specs.declared.Refused.{Refused}
+use Rattle.program.specs.Refusals.{number}
+use Rattle.machine.specs.declared.Machine.{Machine}
 use Rattle.certify_runs.specs.declared.Run.{Run}
-use Rattle.certify.specs.declared.Certification.{Certification}
-use Rattle.step.specs.declared.Stepped.{Stepped}
 use Rattle.trace_replay.specs.declared.Replayed.{Replayed}
 use Rattle.search.specs.declared.Answer.{Answer}
 use Rattle.outcomes.specs.declared.Answer.{Answer as Listed}
+use Rattle.certify_runs.specs.Values.{run_of}
+use Rattle.encode_numbers.specs.Cases.{search_count, listing_count, outcomes_number}
 use Rattle.encode_program.proofs.Lengths.{program_length}
 use Rattle.encode_machine.proofs.Lengths.{machine_length}
 use Rattle.encode_bytes.specs.Numbers.{word32, word64}
 use Rattle.encode_bytes.proofs.Entries.{joined_length}
-use Rattle.encode_answers.specs.Value.{read_bytes, stepped_bytes, entries_bytes, certified_bytes, replayed_bytes, found_bytes, searched_bytes, within_bytes, listing_bytes, listed_bytes, listed_within_bytes}
+use Rattle.encode_answers.specs.Value.{program_read, read_bytes, stepped_bytes, entries_bytes, shown_bytes, certified_bytes, replayed_bytes, found_bytes, searched_bytes, within_bytes, listing_bytes, listed_bytes, listed_within_bytes}
 
-pub read_length : (r : FileRead) → length (read_bytes r) ≡ 495
+pub read_length : (r : Result Program Refused) → length (read_bytes r) ≡ 495
 unfolding read_bytes
-read_length r = omega (arith, program_length r.program)
+read_length r = omega (arith, program_length (program_read r))
 
-pub stepped_length : (r : Stepped) → length (stepped_bytes r) ≡ 342
-unfolding stepped_bytes
-stepped_length r = omega (arith, machine_length r.machine)
+pub stepped_length : (x : Machine) (r : Result Machine Refusal) → length (stepped_bytes x r) ≡ 342
+stepped_length x (Ok y) = omega (arith, machine_length y)
+stepped_length x (Err r) = omega (arith, machine_length x)
 
 entries_length : (r : Run) → length (entries_bytes r) ≡ 32
 entries_length r = joined_length _ 2 (λ k. refl) 0 16
 
-pub certified_length : (r : Certification) → length (certified_bytes r) ≡ 36
-unfolding certified_bytes
-certified_length r = omega (arith, entries_length r.run)
+shown_length : (refusal certified : ℕ) (r : Run) → length (shown_bytes refusal certified r) ≡ 36
+unfolding shown_bytes
+shown_length refusal certified r = omega (arith, entries_length r)
+
+pub certified_length : (r : Result (Option Run) Refusal) → length (certified_bytes r) ≡ 36
+certified_length (Ok (Some run)) = shown_length 0 1 run
+certified_length (Ok None) = shown_length 0 0 (run_of [])
+certified_length (Err r) = shown_length (number r) 0 (run_of [])
 
 pub replayed_length : (r : Replayed) → length (replayed_bytes r) ≡ 357
 unfolding replayed_bytes
 replayed_length r = omega (arith, machine_length r.machine)
 
-pub found_length : (r : Answer) → length (found_bytes r) ≡ 8
+pub found_length : (r : Result Answer Refused) → length (found_bytes r) ≡ 8
 unfolding found_bytes
 found_length r = refl
 
-pub searched_length : (r : Answer) → length (searched_bytes r) ≡ 12
+pub searched_length : (r : Result Answer Refused) → length (searched_bytes r) ≡ 12
 unfolding searched_bytes
-searched_length r = length-append (found_bytes r) (word32 r.count) ∙ (let l = found_length r in omega arith)
+searched_length r = length-append (found_bytes r) (word32 (search_count r)) ∙ (let l = found_length r in omega arith)
 
-pub within_length : (r : Answer) → length (within_bytes r) ≡ 16
+pub within_length : (r : Result Answer Refused) → length (within_bytes r) ≡ 16
 unfolding within_bytes
-within_length r = length-append (found_bytes r) (word64 r.count) ∙ (let l = found_length r in omega arith)
+within_length r = length-append (found_bytes r) (word64 (search_count r)) ∙ (let l = found_length r in omega arith)
 
-pub listing_length : (r : Listed) → length (listing_bytes r) ≡ 8
+pub listing_length : (r : Result Listed Refused) → length (listing_bytes r) ≡ 8
 unfolding listing_bytes
 listing_length r = refl
 
-pub listed_length : (r : Listed) → length (listed_bytes r) ≡ 16
+pub listed_length : (r : Result Listed Refused) → length (listed_bytes r) ≡ 16
 unfolding listed_bytes
-listed_length r = length-append (listing_bytes r) (word32 r.count ++ word32 r.number) ∙ (let l = listing_length r in omega arith)
+listed_length r = length-append (listing_bytes r) (word32 (listing_count r) ++ word32 (outcomes_number r)) ∙ (let l = listing_length r in omega arith)
 
-pub listed_within_length : (r : Listed) → length (listed_within_bytes r) ≡ 24
+pub listed_within_length : (r : Result Listed Refused) → length (listed_within_bytes r) ≡ 24
 unfolding listed_within_bytes
-listed_within_length r = length-append (listing_bytes r) (word32 r.number ++ (word32 0 ++ word64 r.count)) ∙ (let l = listing_length r in omega arith)
+listed_within_length r = length-append (listing_bytes r) (word32 (outcomes_number r) ++ (word32 0 ++ word64 (listing_count r))) ∙ (let l = listing_length r in omega arith)

@@ -1,97 +1,103 @@
 -- The numbers that the cases of each answer stand for; 0 where a case has none.
 -- Assumes nothing.
-use Rattle.std.specs.Prelude.{ℕ}
-use Rattle.program.specs.declared.ReadAnswer.{ReadAnswer}
-use Rattle.program.specs.declared.ReadAnswer.TheVariants.{Good, Refused}
-use Rattle.certify.specs.declared.Certified.{Certified}
-use Rattle.certify.specs.declared.Certified.TheVariants.{Yes, No, Refused as CertifyRefused}
-use Rattle.trace_replay.specs.declared.ReplayAnswer.{ReplayAnswer}
-use Rattle.trace_replay.specs.declared.ReplayAnswer.TheVariants.{Good as ReplayGood, ProgramRefused, TraceRefused}
+use Rattle.std.specs.Prelude.{ℕ, Result, Ok, Err}
+use Rattle.program.specs.declared.Refused.{Refused}
+use Rattle.program.specs.declared.Refusal.TheVariants.{ManyOutcomes}
+use Rattle.program.specs.Refusals.{number}
+use Rattle.trace_replay.specs.declared.ReplayRefusal.{ReplayRefusal}
+use Rattle.trace_replay.specs.declared.ReplayRefusal.TheVariants as whose
 use Rattle.search.specs.declared.Verdict.{Verdict}
-use Rattle.search.specs.declared.Verdict.TheVariants.{Allowed, Forbidden, NotFinished, Refused as SearchRefused}
+use Rattle.search.specs.declared.Verdict.TheVariants.{Allowed, Forbidden, NotFinished}
+use Rattle.search.specs.declared.Answer.{Answer}
 use Rattle.outcomes.specs.declared.Verdict.{Verdict as Listing}
-use Rattle.outcomes.specs.declared.Verdict.TheVariants.{Finished as Listed, NotFinished as NotListed, Refused as ListingRefused}
+use Rattle.outcomes.specs.declared.Verdict.TheVariants.{Finished as Listed, TooMany, NotFinished as NotListed}
+use Rattle.outcomes.specs.declared.Answer.{Answer as Listing_answer}
 
--- ---- read
+-- ---- a refusal at a place, of whatever answer
 -- the refusal number
-abbrev pub read_refusal : ReadAnswer → ℕ
-read_refusal Good = 0
-read_refusal (Refused n place) = n
+abbrev pub refused_number : {A : Type 0} → Result A Refused → ℕ
+refused_number (Ok x) = 0
+refused_number (Err e) = number e.refusal
 
 -- the place of the refused byte
-abbrev pub read_place : ReadAnswer → ℕ
-read_place Good = 0
-read_place (Refused n place) = place
-
--- ---- certify
--- 1 if the thread is certified
-abbrev pub certified_byte : Certified → ℕ
-certified_byte Yes = 1
-certified_byte No = 0
-certified_byte (CertifyRefused n) = 0
+abbrev pub refused_place : {A : Type 0} → Result A Refused → ℕ
+refused_place (Ok x) = 0
+refused_place (Err e) = e.place
 
 -- ---- replay
 -- the number of the refusal, of whichever file
-abbrev pub replay_refusal : ReplayAnswer → ℕ
-replay_refusal ReplayGood = 0
-replay_refusal (ProgramRefused n place) = n
-replay_refusal (TraceRefused n index place) = n
+abbrev pub replay_refusal : Result Unit ReplayRefusal → ℕ
+replay_refusal (Ok good) = 0
+replay_refusal (Err (whose.Program e)) = number e.refusal
+replay_refusal (Err (whose.Trace e index)) = number e.refusal
 
 -- the file that is refused: 1 the program, 2 the trace
-abbrev pub replay_file : ReplayAnswer → ℕ
-replay_file ReplayGood = 0
-replay_file (ProgramRefused n place) = 1
-replay_file (TraceRefused n index place) = 2
+abbrev pub replay_file : Result Unit ReplayRefusal → ℕ
+replay_file (Ok good) = 0
+replay_file (Err (whose.Program e)) = 1
+replay_file (Err (whose.Trace e index)) = 2
 
 -- the index of the refused record of the trace
-abbrev pub replay_index : ReplayAnswer → ℕ
-replay_index ReplayGood = 0
-replay_index (ProgramRefused n place) = 0
-replay_index (TraceRefused n index place) = index
+abbrev pub replay_index : Result Unit ReplayRefusal → ℕ
+replay_index (Ok good) = 0
+replay_index (Err (whose.Program e)) = 0
+replay_index (Err (whose.Trace e index)) = index
 
 -- the place of the refusal in its file
-abbrev pub replay_place : ReplayAnswer → ℕ
-replay_place ReplayGood = 0
-replay_place (ProgramRefused n place) = place
-replay_place (TraceRefused n index place) = place
+abbrev pub replay_place : Result Unit ReplayRefusal → ℕ
+replay_place (Ok good) = 0
+replay_place (Err (whose.Program e)) = e.place
+replay_place (Err (whose.Trace e index)) = e.place
 
 -- ---- search
 -- 1 allowed, 2 forbidden, 3 not finished
-abbrev pub verdict_byte : Verdict → ℕ
-verdict_byte (SearchRefused n place) = 0
-verdict_byte Allowed = 1
-verdict_byte Forbidden = 2
-verdict_byte NotFinished = 3
+abbrev pub verdict_number : Verdict → ℕ
+verdict_number Allowed = 1
+verdict_number Forbidden = 2
+verdict_number NotFinished = 3
 
--- the number of the refusal
-abbrev pub search_refusal : Verdict → ℕ
-search_refusal (SearchRefused n place) = n
-search_refusal Allowed = 0
-search_refusal Forbidden = 0
-search_refusal NotFinished = 0
+-- and 0 refused
+abbrev pub verdict_byte : Result Answer Refused → ℕ
+verdict_byte (Ok a) = verdict_number a.verdict
+verdict_byte (Err e) = 0
 
--- the place of the refused byte
-abbrev pub search_place : Verdict → ℕ
-search_place (SearchRefused n place) = place
-search_place Allowed = 0
-search_place Forbidden = 0
-search_place NotFinished = 0
+-- how many steps the trace has
+abbrev pub search_steps : Result Answer Refused → ℕ
+search_steps (Ok a) = a.steps
+search_steps (Err e) = 0
+
+-- the count
+abbrev pub search_count : Result Answer Refused → ℕ
+search_count (Ok a) = a.count
+search_count (Err e) = 0
 
 -- ---- outcomes
--- 1 finished, 3 not finished
-abbrev pub listing_byte : Listing → ℕ
-listing_byte (ListingRefused n place) = 0
-listing_byte Listed = 1
-listing_byte NotListed = 3
+-- 1 finished, 3 not finished, 0 refused: too many is refusal 40
+abbrev pub listing_number : Listing → ℕ
+listing_number Listed = 1
+listing_number TooMany = 0
+listing_number NotListed = 3
+
+abbrev pub listing_byte : Result Listing_answer Refused → ℕ
+listing_byte (Ok a) = listing_number a.verdict
+listing_byte (Err e) = 0
 
 -- the number of the refusal
-abbrev pub listing_refusal : Listing → ℕ
-listing_refusal (ListingRefused n place) = n
-listing_refusal Listed = 0
-listing_refusal NotListed = 0
+abbrev pub room_refusal : Listing → ℕ
+room_refusal Listed = 0
+room_refusal TooMany = number ManyOutcomes
+room_refusal NotListed = 0
 
--- the place of the refused byte
-abbrev pub listing_place : Listing → ℕ
-listing_place (ListingRefused n place) = place
-listing_place Listed = 0
-listing_place NotListed = 0
+abbrev pub listing_refusal : Result Listing_answer Refused → ℕ
+listing_refusal (Ok a) = room_refusal a.verdict
+listing_refusal (Err e) = number e.refusal
+
+-- the count
+abbrev pub listing_count : Result Listing_answer Refused → ℕ
+listing_count (Ok a) = a.count
+listing_count (Err e) = 0
+
+-- how many outcomes there are
+abbrev pub outcomes_number : Result Listing_answer Refused → ℕ
+outcomes_number (Ok a) = a.number
+outcomes_number (Err e) = 0

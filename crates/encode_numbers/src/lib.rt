@@ -2,93 +2,70 @@
 #![tactic(auto)]
 
 ghost use Rattle.std.specs.Prelude.{◌≡◌, cond};
-ghost use Rattle.certify.specs.Answers.{certify_refusal};
-ghost use Rattle.encode_numbers.specs.Cases.{read_refusal, read_place, certified_byte, replay_refusal, replay_file, replay_index, replay_place, verdict_byte, search_refusal, search_place, listing_byte, listing_refusal, listing_place};
+ghost use Rattle.encode_numbers.specs.Cases.{refused_number, refused_place, replay_refusal, replay_file, replay_index, replay_place, verdict_byte, search_steps, search_count, listing_byte, listing_refusal, listing_count, outcomes_number};
 
-use certify::Certified;
 use outcomes::Verdict as Listing;
-use program::ReadAnswer;
+use program::{Refusal, Refused};
 use search::Verdict;
-use trace_replay::ReplayAnswer;
+use trace_replay::ReplayRefusal;
 
-// ---- read
-pub fn read_refusal(a: ReadAnswer) -> u8
-    ensures { result ≡ read_refusal a }
+// ---- a refusal at a place, of whatever answer
+pub fn refused_number<A>(r: &Result<A, Refused>) -> u8
+    ensures { result ≡ refused_number r.now }
 {
-    match a {
-        ReadAnswer::Good => 0,
-        ReadAnswer::Refused(n, _) => n,
+    match r {
+        Ok(_) => 0,
+        Err(e) => e.refusal.number(),
     }
 }
 
-pub fn read_place(a: ReadAnswer) -> usize
-    ensures { result ≡ read_place a }
+pub fn refused_place<A>(r: &Result<A, Refused>) -> usize
+    ensures { result ≡ refused_place r.now }
 {
-    match a {
-        ReadAnswer::Good => 0,
-        ReadAnswer::Refused(_, place) => place,
-    }
-}
-
-// ---- certify
-pub fn certify_refusal(a: Certified) -> u8
-    ensures { result ≡ certify_refusal a }
-{
-    match a {
-        Certified::Yes => 0,
-        Certified::No => 0,
-        Certified::Refused(n) => n,
-    }
-}
-
-pub fn certified_byte(a: Certified) -> u8
-    ensures { result ≡ certified_byte a }
-{
-    match a {
-        Certified::Yes => 1,
-        Certified::No => 0,
-        Certified::Refused(_) => 0,
+    match r {
+        Ok(_) => 0,
+        Err(e) => e.place,
     }
 }
 
 // ---- replay
-pub fn replay_refusal(a: ReplayAnswer) -> u8
+pub fn replay_refusal(a: Result<(), ReplayRefusal>) -> u8
     ensures { result ≡ replay_refusal a }
 {
     match a {
-        ReplayAnswer::Good => 0,
-        ReplayAnswer::ProgramRefused(n, _) => n,
-        ReplayAnswer::TraceRefused(n, _, _) => n,
+        Ok(()) => 0,
+        Err(ReplayRefusal::Program(e)) => e.refusal.number(),
+        Err(ReplayRefusal::Trace(e, _)) => e.refusal.number(),
     }
 }
 
-pub fn replay_file(a: ReplayAnswer) -> u8
+pub fn replay_file(a: Result<(), ReplayRefusal>) -> u8
     ensures { result ≡ replay_file a }
 {
     match a {
-        ReplayAnswer::Good => 0,
-        ReplayAnswer::ProgramRefused(_, _) => 1,
-        ReplayAnswer::TraceRefused(_, _, _) => 2,
+        Ok(()) => 0,
+        Err(ReplayRefusal::Program(_)) => 1,
+        Err(ReplayRefusal::Trace(_, _)) => 2,
     }
 }
 
-pub fn replay_index(a: ReplayAnswer) -> usize
+pub fn replay_index(a: Result<(), ReplayRefusal>) -> usize
     ensures { result ≡ replay_index a }
 {
     match a {
-        ReplayAnswer::Good => 0,
-        ReplayAnswer::ProgramRefused(_, _) => 0,
-        ReplayAnswer::TraceRefused(_, index, _) => index,
+        Ok(()) => 0,
+        Err(ReplayRefusal::Program(_)) => 0,
+        Err(ReplayRefusal::Trace(_, index)) => index,
     }
 }
 
-pub fn replay_place(a: ReplayAnswer) -> usize
+pub fn replay_place(a: Result<(), ReplayRefusal>) -> usize
     ensures { result ≡ replay_place a }
 {
     match a {
-        ReplayAnswer::Good => 0,
-        ReplayAnswer::ProgramRefused(_, place) => place,
-        ReplayAnswer::TraceRefused(_, _, place) => place,
+        Ok(()) => 0,
+        Err(ReplayRefusal::Program(e)) => e.place,
+        Err(ReplayRefusal::Trace(e, _)) => e.place,
     }
 }
 
@@ -99,66 +76,87 @@ pub fn yes_byte(b: bool) -> u8
 }
 
 // ---- search
-pub fn verdict_byte(v: Verdict) -> u8
-    ensures { result ≡ verdict_byte v }
+pub fn verdict_byte(r: Result<search::Answer, Refused>) -> u8
+    ensures { result ≡ verdict_byte r }
 {
-    match v {
-        Verdict::Refused(_, _) => 0,
-        Verdict::Allowed => 1,
-        Verdict::Forbidden => 2,
-        Verdict::NotFinished => 3,
+    match r {
+        Ok(a) => {
+            let verdict = a.verdict;
+            match verdict {
+                Verdict::Allowed => 1,
+                Verdict::Forbidden => 2,
+                Verdict::NotFinished => 3,
+            }
+        }
+        Err(_) => 0,
     }
 }
 
-pub fn search_refusal(v: Verdict) -> u8
-    ensures { result ≡ search_refusal v }
+pub fn search_steps(r: Result<search::Answer, Refused>) -> usize
+    ensures { result ≡ search_steps r }
 {
-    match v {
-        Verdict::Refused(n, _) => n,
-        Verdict::Allowed => 0,
-        Verdict::Forbidden => 0,
-        Verdict::NotFinished => 0,
+    match r {
+        Ok(a) => a.steps,
+        Err(_) => 0,
     }
 }
 
-pub fn search_place(v: Verdict) -> usize
-    ensures { result ≡ search_place v }
+pub fn search_count(r: Result<search::Answer, Refused>) -> u64
+    ensures { result ≡ search_count r }
 {
-    match v {
-        Verdict::Refused(_, place) => place,
-        Verdict::Allowed => 0,
-        Verdict::Forbidden => 0,
-        Verdict::NotFinished => 0,
+    match r {
+        Ok(a) => a.count,
+        Err(_) => 0,
     }
 }
 
 // ---- outcomes
-pub fn listing_byte(v: Listing) -> u8
-    ensures { result ≡ listing_byte v }
+pub fn listing_byte(r: Result<outcomes::Answer, Refused>) -> u8
+    ensures { result ≡ listing_byte r }
 {
-    match v {
-        Listing::Refused(_, _) => 0,
-        Listing::Finished => 1,
-        Listing::NotFinished => 3,
+    match r {
+        Ok(a) => {
+            let verdict = a.verdict;
+            match verdict {
+                Listing::Finished => 1,
+                Listing::TooMany => 0,
+                Listing::NotFinished => 3,
+            }
+        }
+        Err(_) => 0,
     }
 }
 
-pub fn listing_refusal(v: Listing) -> u8
-    ensures { result ≡ listing_refusal v }
+pub fn listing_refusal(r: Result<outcomes::Answer, Refused>) -> u8
+    ensures { result ≡ listing_refusal r }
 {
-    match v {
-        Listing::Refused(n, _) => n,
-        Listing::Finished => 0,
-        Listing::NotFinished => 0,
+    match r {
+        Ok(a) => {
+            let verdict = a.verdict;
+            match verdict {
+                Listing::Finished => 0,
+                Listing::TooMany => Refusal::ManyOutcomes.number(),
+                Listing::NotFinished => 0,
+            }
+        }
+        Err(e) => e.refusal.number(),
     }
 }
 
-pub fn listing_place(v: Listing) -> usize
-    ensures { result ≡ listing_place v }
+pub fn listing_count(r: Result<outcomes::Answer, Refused>) -> u64
+    ensures { result ≡ listing_count r }
 {
-    match v {
-        Listing::Refused(_, place) => place,
-        Listing::Finished => 0,
-        Listing::NotFinished => 0,
+    match r {
+        Ok(a) => a.count,
+        Err(_) => 0,
+    }
+}
+
+pub fn outcomes_number(r: Result<outcomes::Answer, Refused>) -> usize
+    ensures { result ≡ outcomes_number r }
+{
+    match r {
+        Ok(a) => a.number,
+        Err(_) => 0,
     }
 }

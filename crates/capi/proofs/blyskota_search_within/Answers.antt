@@ -2,7 +2,7 @@
 -- Assumes nothing.
 use Rattle.search.proofs.Promise.{few_steps}
 use Rattle.encode_answers.specs.Value.{within_bytes}
-use Rattle.capi.proofs.Called.{two, short_beside, answer_beside}
+use Rattle.capi.proofs.Called.{few, two, short_beside, answer_beside}
 use Rattle.capi.specs.Calls.{within_call}
 use Rattle.capi.proofs.blyskota_search_within.Goals as goal
 
@@ -11,7 +11,7 @@ unfolding within_call
 returns-then-answer-lt16 c = short_beside 16 _ _ _ _ c.if-answer-lt16.true
 
 pub put_within-requires : goal.put_within-requires
-put_within-requires c = (c.if-answer-lt16.false, few_steps _ _ _ _ _ c.search_within.ensures.searched)
+put_within-requires c = (c.if-answer-lt16.false, few _ (few_steps _ _ _ _ _ c.search_within.ensures.searched))
 
 pub returns : goal.returns
 unfolding within_call

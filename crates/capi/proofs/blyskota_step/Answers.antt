@@ -1,6 +1,10 @@
 -- `capi::blyskota_step` meets its contract.
 -- Assumes nothing.
+use mathlib.Core.Path.{ap}
 use native.Mathlib.Omega.{arith}
+use Rattle.std.specs.Prelude.{Result}
+use Rattle.program.specs.declared.Refusal.{Refusal}
+use Rattle.machine.specs.declared.Machine.{Machine}
 use Rattle.step.specs.Step.{step}
 use Rattle.step.specs.Answers.{stepped}
 use Rattle.encode_answers.specs.Value.{stepped_bytes}
@@ -24,4 +28,6 @@ returns-then-machine-ne341 c =
 pub returns : goal.returns
 unfolding step_call
 returns c =
-    answer_of_values 342 stepped_bytes _ _ _ c.if-answer-lt342.false c.put_stepped.ensures (λ q y k. stepped y (step q y k)) _ _ _ _ _ c.if-program-ne487.false c.if-machine-ne341.false c.program_of.ensures c.machine_of.ensures c.step.ensures
+    let x = c.machine_of-x.result in
+    answer_of_values 342 (λ (r : Machine × Result Machine Refusal). stepped_bytes r.0 r.1) _ _ (x, c.step.result) c.if-answer-lt342.false c.put_stepped.ensures (λ q y k. (y, stepped (step q y k))) _ _ _ _ _ c.if-program-ne487.false c.if-machine-ne341.false c.program_of.ensures c.machine_of-x.ensures
+    (ap (λ (r : Result Machine Refusal). (x, r)) c.step.ensures)

@@ -9,4 +9,4 @@ use Rattle.encode_answers.proofs.put_listed.Goals as goal
 pub returns : goal.returns
 unfolding listed_bytes
 returns c =
-    put_then _ _ _ _ _ c.put_listing.ensures (put_then _ _ _ _ _ c.put_u32.ensures c.put_u32-2.ensures (omega arith) (omega arith)) (let l = listing_length c.args.r in omega arith) (omega arith)
+    put_then _ _ _ _ _ c.put_listing.ensures (put_then _ _ _ _ _ (rw c.listing_count.ensures at c.put_u32.ensures) (rw c.outcomes_number.ensures at c.put_u32-2.ensures) (omega arith) (omega arith)) (let l = listing_length c.args.r in omega arith) (omega arith)

@@ -10,9 +10,9 @@ pub returns : goal.returns
 unfolding listed_within_bytes
 returns c =
     put_then _ _ _ _ _ c.put_listing.ensures
-    (put_then _ _ _ _ _ c.put_u32.ensures
+    (put_then _ _ _ _ _ (rw c.outcomes_number.ensures at c.put_u32.ensures)
     (put_then _ _ _ _ _ c.put_u32-2.ensures
-    c.put_u64.ensures
+    (rw c.listing_count.ensures at c.put_u64.ensures)
     (omega arith) (omega arith))
     (omega arith) (omega arith))
     (let l = listing_length c.args.r in omega arith) (omega arith)

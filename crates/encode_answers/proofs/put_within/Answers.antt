@@ -8,4 +8,4 @@ use Rattle.encode_answers.proofs.put_within.Goals as goal
 
 pub returns : goal.returns
 unfolding within_bytes
-returns c = put_then _ _ _ _ _ c.put_found.ensures c.put_u64.ensures (let l = found_length c.args.r in omega arith) (omega arith)
+returns c = put_then _ _ _ _ _ c.put_found.ensures (rw c.search_count.ensures at c.put_u64.ensures) (let l = found_length c.args.r in omega arith) (omega arith)
