@@ -10,7 +10,6 @@ use machine::Machine;
 use machine::machines::fresh;
 use program::Program;
 use std::io;
-use std::num::wrapping_add_u64;
 use std::time::{CpuClock, Duration};
 use step::{TraceStep, step};
 
@@ -64,23 +63,21 @@ fn readings(rt: &(impl CpuClock + Print + Eprint), calls: u64) -> io::Result<()>
     let mut sum = 0u64;
     for i in 0..calls {
         file[646] = (i % 256) as u8;
-        let r = read(&file);
-        let p = r.program;
-        let q = p.question[7];
-        sum = wrapping_add_u64(sum, q.value as u64);
+        let p = read(&file).program;
+        sum = sum.wrapping_add(u64::from(p.question[7].value));
     }
     report(rt, "read", calls, sum, before)
 }
 
 // ---- steps: store buffering, both threads from the start to the end, with another value in a register each time
 fn store_buffering() -> Program {
-    let r = read(
+    read(
         b"PG\x01\x02\
         TH\x00\x02IN\x02\x00\x00\x00\x00\x00\x01IN\x01\x00\x00\x00\x01\x00\x00\
         TH\x01\x02IN\x02\x00\x00\x00\x01\x00\x01IN\x01\x00\x00\x00\x00\x00\x00\
         QU\x00",
-    );
-    r.program
+    )
+    .program
 }
 
 fn with_value(x: Machine, i: u64) -> Machine {
@@ -88,40 +85,36 @@ fn with_value(x: Machine, i: u64) -> Machine {
     x.moved(0, x.memory, s.with_register(7, (i % 256) as u8, 0))
 }
 
-fn promise(p: Program, x: Machine, i: u8, l: u8, v: u8) -> Machine {
-    let r = step(
-        p,
-        x,
-        TraceStep {
-            kind: 1,
-            thread: i,
-            a: l,
-            b: v,
-        },
-    );
-    r.machine
+fn promise(thread: u8, a: u8, b: u8) -> TraceStep {
+    TraceStep {
+        kind: 1,
+        thread,
+        a,
+        b,
+    }
 }
 
-fn execute(p: Program, x: Machine, i: u8, t: u8) -> Machine {
-    let r = step(
-        p,
-        x,
-        TraceStep {
-            kind: 0,
-            thread: i,
-            a: t,
-            b: 0,
-        },
-    );
-    r.machine
+fn execute(thread: u8, a: u8) -> TraceStep {
+    TraceStep {
+        kind: 0,
+        thread,
+        a,
+        b: 0,
+    }
+}
+
+fn run(p: Program, mut x: Machine, all: &[TraceStep]) -> Machine {
+    for k in all {
+        x = step(p, x, *k).machine;
+    }
+    x
 }
 
 // Six steps are accepted.
 fn one_run(p: Program, x: Machine) -> Machine {
-    let a = execute(p, promise(p, x, 0, 0, 1), 0, 1);
-    let b = promise(p, execute(p, a, 0, 0), 1, 1, 1);
-    let c = execute(p, b, 1, 2);
-    execute(p, c, 1, 0)
+    let first = [promise(0, 0, 1), execute(0, 1), execute(0, 0)];
+    let second = [promise(1, 1, 1), execute(1, 2), execute(1, 0)];
+    run(p, run(p, x, &first), &second)
 }
 
 fn steps(rt: &(impl CpuClock + Print + Eprint), runs: u64) -> io::Result<()> {
@@ -130,37 +123,34 @@ fn steps(rt: &(impl CpuClock + Print + Eprint), runs: u64) -> io::Result<()> {
     let mut sum = 0u64;
     for i in 0..runs {
         let x = one_run(p, with_value(fresh(), i));
-        let m = x.memory;
-        let s = x.threads[1];
-        sum = wrapping_add_u64(sum, m.count as u64 + s.position as u64);
+        sum = sum.wrapping_add(u64::from(x.memory.count) + u64::from(x.threads[1].position));
     }
     report(rt, "six steps", runs, sum, before)
 }
 
 // ---- certification: a load before the promised store, with another value in a register each time
 fn load_buffering() -> Program {
-    let r = read(
+    read(
         b"PG\x01\x02\
         TH\x00\x02IN\x01\x00\x00\x00\x01\x00\x00IN\x02\x00\x00\x00\x00\x00\x01\
         TH\x01\x02IN\x01\x00\x00\x00\x00\x00\x00IN\x02\x00\x00\x00\x01\x00\x01\
         QU\x00",
-    );
-    r.program
+    )
+    .program
 }
 
 fn certifications(rt: &(impl CpuClock + Print + Eprint), calls: u64) -> io::Result<()> {
     let before = used(rt);
     let p = load_buffering();
-    let x = promise(p, promise(p, fresh(), 0, 0, 1), 1, 1, 1);
+    let x = run(p, fresh(), &[promise(0, 0, 1), promise(1, 1, 1)]);
     let mut sum = 0u64;
     for i in 0..calls {
-        let r = certify(p, with_value(x, i), 0);
-        let c = r.answer;
-        match c {
-            Certified::Yes => sum = wrapping_add_u64(sum, 1),
-            Certified::No => {}
-            Certified::Refused(n) => sum = wrapping_add_u64(sum, n as u64),
-        }
+        let n = match certify(p, with_value(x, i), 0).answer {
+            Certified::Yes => 1,
+            Certified::No => 0,
+            Certified::Refused(n) => n,
+        };
+        sum = sum.wrapping_add(u64::from(n));
     }
     report(rt, "certify", calls, sum, before)
 }
