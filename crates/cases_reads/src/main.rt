@@ -5,63 +5,39 @@
 
 mod changed;
 
-use cases_rows::file::{File, add, none, readable};
-use cases_rows::row::row_from;
+use cases_rows::row::{Row, Rows};
 use cases_rows::{input, unread};
 use changed::changed;
 use file_reader::ReadAnswer;
 use std::io;
-use text::{byte, count, number, text};
 
-fn answer(rt: &impl Print, refusal: u8, place: usize) -> io::Result<()> {
-    number(rt, b' ', refusal)?;
-    count(rt, b' ', place)?;
-    byte(rt, b'\n')
+// What is said of a file, behind its name.
+fn read(rt: &impl Print, file: &[u8]) -> io::Result<()> {
+    let (refusal, place) = match file_reader::read(file).answer {
+        ReadAnswer::Good => (0, 0),
+        ReadAnswer::Refused(refusal, place) => (refusal, place),
+    };
+    println!(rt; " {refusal} {place}")
 }
 
-// Reads the first n bytes.
-pub fn read(rt: &impl Print, bytes: &[u8; 700], n: usize) -> io::Result<()> {
-    let all: &[u8] = bytes;
-    if n > all.len() {
-        return Ok(());
+fn row(rt: &impl Print, r: Row) -> io::Result<()> {
+    if r.name.first() == Some(&b'!') {
+        return changed(rt, r.file);
     }
-    let r = file_reader::read(&all[0..n]);
-    let a = r.answer;
-    match a {
-        ReadAnswer::Good => answer(rt, 0, 0),
-        ReadAnswer::Refused(refusal, place) => answer(rt, refusal, place),
-    }
-}
-
-fn row(rt: &impl Print, name: &[u8], f: File, bytes: &[u8]) -> io::Result<()> {
-    let g = add(f, bytes);
-    if readable(g) {
-        text(rt, name)?;
-        let b = g.bytes;
-        read(rt, &b, g.len)
-    } else {
-        unread(rt, name)
-    }
-}
-
-fn rows(rt: &impl Print, s: &[u8]) -> io::Result<()> {
-    let mut r = row_from(none(), s, 0);
-    while r.at < r.next {
-        let at = r.at;
-        let space = r.space;
-        let mark = r.mark;
-        if s[at] == b'!' {
-            changed(rt, r.file)?;
-        } else {
-            row(rt, &s[at..space], r.file, &s[space..mark])?;
+    match r.file.add(r.says).readable() {
+        Some(file) => {
+            rt.write_all(r.name)?;
+            read(rt, file)
         }
-        r = row_from(r.file, s, r.next);
+        None => unread(rt, r.name),
     }
-    Ok(())
 }
 
 fn main(rt: HostRuntime) -> io::Result<()> {
     let mut buffer = [0u8; 65536];
     let n = input(&rt, &mut buffer)?;
-    rows(&rt, &buffer[0..n])
+    for r in Rows::of(&buffer[..n]) {
+        row(&rt, r)?;
+    }
+    Ok(())
 }

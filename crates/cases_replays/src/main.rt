@@ -4,57 +4,45 @@
 // A row of standard input has a name and the bytes of a trace of the program that the lines with = and + above it give.
 #![tactic(auto)]
 
-mod told;
-
-use cases_rows::file::{File, add, none, readable};
-use cases_rows::row::row_from;
+use cases_rows::file::File;
+use cases_rows::row::{Row, Rows};
+use cases_rows::show::State;
 use cases_rows::{input, unread};
 use std::io;
-use told::replayed;
+use trace_replay::{ReplayAnswer, replay};
 
-// The first n bytes of the file and the first m of the trace.
-fn fronts(
-    rt: &impl Print,
-    name: &[u8],
-    file: &[u8],
-    n: usize,
-    trace: &[u8],
-    m: usize,
-) -> io::Result<()> {
-    if n > file.len() {
-        return Ok(());
-    }
-    if m > trace.len() {
-        return Ok(());
-    }
-    replayed(rt, name, &file[0..n], &trace[0..m])
+fn yes_or_no(b: bool) -> &'static str {
+    if b { "yes" } else { "no" }
 }
 
-fn row(rt: &impl Print, name: &[u8], f: File, bytes: &[u8]) -> io::Result<()> {
-    let t = add(none(), bytes);
-    if readable(f) & readable(t) {
-        let file = f.bytes;
-        let trace = t.bytes;
-        fronts(rt, name, &file, f.len, &trace, t.len)
-    } else {
-        unread(rt, name)
-    }
+fn replayed(rt: &impl Print, name: &[u8], file: &[u8], trace: &[u8]) -> io::Result<()> {
+    let r = replay(file, trace);
+    let (said, refusal, index, place) = match r.answer {
+        ReplayAnswer::Good => ("good", 0, 0, 0),
+        ReplayAnswer::ProgramRefused(n, place) => ("program", n, 0, place),
+        ReplayAnswer::TraceRefused(n, index, place) => ("trace", n, index, place),
+    };
+    let steps = r.steps;
+    let complete = yes_or_no(r.complete);
+    let holds = yes_or_no(r.holds);
+    let after = State(r.machine);
+    rt.write_all(name)?;
+    println!(rt; " {said} {refusal} {index} {place} {steps} {complete} {holds}{after}")
 }
 
-fn rows(rt: &impl Print, s: &[u8]) -> io::Result<()> {
-    let mut r = row_from(none(), s, 0);
-    while r.at < r.next {
-        let at = r.at;
-        let space = r.space;
-        let mark = r.mark;
-        row(rt, &s[at..space], r.file, &s[space..mark])?;
-        r = row_from(r.file, s, r.next);
+fn row(rt: &impl Print, r: Row) -> io::Result<()> {
+    let trace = File::none().add(r.says);
+    match (r.file.readable(), trace.readable()) {
+        (Some(file), Some(trace)) => replayed(rt, r.name, file, trace),
+        _ => unread(rt, r.name),
     }
-    Ok(())
 }
 
 fn main(rt: HostRuntime) -> io::Result<()> {
     let mut buffer = [0u8; 65536];
     let n = input(&rt, &mut buffer)?;
-    rows(&rt, &buffer[0..n])
+    for r in Rows::of(&buffer[..n]) {
+        row(&rt, r)?;
+    }
+    Ok(())
 }

@@ -1,79 +1,89 @@
 // Bytes as a row writes them out: a capital letter for itself, any other byte as two hexadecimal digits in lower case, spaces where
 // they help to read. `PG 01 02` is 50 47 01 02.
+ghost use Rattle.std.specs.Prelude.{◌≡◌, ◌≤◌, take, IfSome};
 
-// The first `len` bytes. Open: the first digit of a byte is read and stands in `high`, as the upper half. Bad: something is no byte,
-// or there is no room.
+// Fixed memory: a copy of a file is cheap and cannot fail, and rows add to copies. An ArrayVec is not `Copy`.
 #[derive(Clone, Copy)]
 pub struct File {
     pub bytes: [u8; 700],
     pub len: usize,
-    pub high: u8,
-    pub open: bool,
-    pub bad: bool,
+    // The first digit of a byte whose second one is still to come, as its upper half.
+    high: Option<u8>,
+    // Something was no byte, or there was no room. The bytes around it stay: a row that begins with ! is about them.
+    bad: bool,
+    pub ghost room: { len ≤ 700 },
 }
 
-pub fn none() -> File {
-    let b = [0u8; 700];
-    File {
-        bytes: b,
-        len: 0,
-        high: 0,
-        open: false,
-        bad: false,
+impl File {
+    pub fn none() -> File
+        ensures { result.len ≡ 0 }
+    {
+        File {
+            bytes: [0; 700],
+            len: 0,
+            high: None,
+            bad: false,
+        }
     }
-}
 
-fn push(mut f: File, b: u8) -> File {
-    let n = f.len;
-    if n < 700 {
-        f.bytes[n] = b;
-        f.len = n + 1;
-    } else {
-        f.bad = true;
+    fn push(&mut self, b: u8) {
+        if self.len < 700 {
+            self.bytes[self.len] = b;
+            self.len += 1;
+        } else {
+            self.bad = true;
+        }
     }
-    f
-}
 
-// A letter between the two digits of a byte is no byte.
-fn letter(mut f: File, b: u8) -> File {
-    f.bad = f.bad | f.open;
-    push(f, b)
-}
-
-fn digit(mut f: File, d: u8) -> File {
-    if f.open {
-        f.open = false;
-        return push(f, f.high | d);
+    // A letter between the two digits of a byte is no byte.
+    fn letter(&mut self, b: u8) {
+        if self.high.is_some() {
+            self.bad = true;
+        }
+        self.push(b);
     }
-    f.open = true;
-    f.high = d << 4;
-    f
-}
 
-fn spoilt(mut f: File) -> File {
-    f.bad = true;
-    f
-}
-
-fn with(f: File, c: u8) -> File {
-    match c {
-        b' ' | b'+' => f,
-        b'=' => none(),
-        b'A'..=b'Z' => letter(f, c),
-        b'0'..=b'9' => digit(f, c - b'0'),
-        b'a'..=b'f' => digit(f, c - b'a' + 10),
-        _ => spoilt(f),
+    fn digit(&mut self, d: u8) {
+        match self.high {
+            Some(high) => {
+                self.high = None;
+                self.push(high | d);
+            }
+            None => self.high = Some(d << 4),
+        }
     }
-}
 
-pub fn add(f: File, s: &[u8]) -> File {
-    let mut g = f;
-    for i in 0..s.len() {
-        g = with(g, s[i]);
+    fn with(&mut self, c: u8) {
+        match c {
+            b' ' | b'+' => {}
+            b'=' => *self = File::none(),
+            b'A'..=b'Z' => self.letter(c),
+            b'0'..=b'9' => self.digit(c - b'0'),
+            b'a'..=b'f' => self.digit(c - b'a' + 10),
+            _ => self.bad = true,
+        }
     }
-    g
-}
 
-pub fn readable(f: File) -> bool {
-    !f.open & !f.bad
+    pub fn add(mut self, s: &[u8]) -> File {
+        for c in s {
+            self.with(*c);
+        }
+        self
+    }
+
+    pub fn bytes(&self) -> &[u8]
+        ensures { result.now ≡ take self.now.len self.now.bytes }
+    {
+        &self.bytes[..self.len]
+    }
+
+    // The bytes, where all of them can be read.
+    pub fn readable(&self) -> Option<&[u8]>
+        ensures { IfSome result (λ b. b.now ≡ take self.now.len self.now.bytes) }
+    {
+        if self.bad || self.high.is_some() {
+            return None;
+        }
+        Some(self.bytes())
+    }
 }

@@ -1,56 +1,57 @@
 // The rows of standard input. A line that begins with = gives a file, one that begins with + goes on with it; the rows after them are
 // about that file.
-ghost use Rattle.std.specs.Prelude.{◌≤◌, length};
-ghost use Rattle.cases_rows.specs.Row.{RowWithin};
+ghost use Rattle.std.specs.Prelude.{◌≡◌, ◌++◌, ◌<◌, length, IfSome};
+ghost use Rattle.std.specs.Iterator.{at_most};
 
-use crate::file::{File, add};
-use crate::{find, line_at};
+use crate::file::File;
+use crate::lines::Lines;
 
-// A row: its name stands before the first space, what it says from there to `mark`, and the line after it begins at `next`.
+// A row: what stands before its first space, what it says from there on, and the file of the lines above it.
 #[derive(Clone, Copy)]
-pub struct Row {
+pub struct Row<'a> {
     pub file: File,
-    pub at: usize,
-    pub space: usize,
-    pub mark: usize,
-    pub next: usize,
+    pub name: &'a [u8],
+    pub says: &'a [u8],
 }
 
-// Whether a line without its comment is a row: it says something, and nothing of a file.
-fn is_row(s: &[u8]) -> bool {
-    if s.len() == 0 {
-        return false;
-    }
-    (s[0] != b'=') & (s[0] != b'+')
+#[derive(Drop)]
+pub struct Rows<'a> {
+    pub file: File,
+    pub lines: Lines<'a>,
 }
 
-// The first row from `from` on, after rows about the file f. Where there is none, `next` is `at`.
-pub fn row_from(f: File, s: &[u8], from: usize) -> Row
-    requires { from ≤ length s.now }
-    ensures { (from ≤ result.at) × RowWithin (length s.now) result }
-{
-    let mut g = f;
-    let mut at = from;
-    while at < s.len() {
-        let l = line_at(s, at);
-        let mark = l.mark;
-        if is_row(&s[at..mark]) {
-            return Row {
-                file: g,
-                at: at,
-                space: at + find(&s[at..mark], 0, b' '),
-                mark: mark,
-                next: l.next,
-            };
+impl<'a> Rows<'a> {
+    pub fn of(input: &'a [u8]) -> Rows<'a>
+        ensures { result.lines.0.now ≡ input.now }
+    {
+        Rows {
+            file: File::none(),
+            lines: Lines(input),
         }
-        g = add(g, &s[at..mark]);
-        at = l.next;
     }
-    Row {
-        file: g,
-        at: at,
-        space: at,
-        mark: at,
-        next: at,
+}
+
+impl<'a> Iterator for Rows<'a> {
+    type Item = Row<'a>;
+
+    ghost remaining = { λ s. at_most (length s.lines.0.now) };
+
+    fn next(&mut self) -> Option<Row<'a>> {
+        while let Some(line) = self.lines.next() {
+            match line.first() {
+                None => {}
+                Some(b'=' | b'+') => self.file = self.file.add(line),
+                Some(_) => {
+                    let space = line.iter().position(|b| *b == b' ').unwrap_or(line.len());
+                    let (name, says) = line.split_at(space);
+                    return Some(Row {
+                        file: self.file,
+                        name,
+                        says,
+                    });
+                }
+            }
+        }
+        None
     }
 }

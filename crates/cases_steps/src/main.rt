@@ -5,46 +5,27 @@
 #![tactic(auto)]
 
 mod change;
+mod command;
 mod walk;
 
-use cases_rows::file::{File, none, readable};
-use cases_rows::row::row_from;
+use cases_rows::row::{Row, Rows};
 use cases_rows::{input, unread};
+use file_reader::read;
 use std::io;
 use walk::walk;
 
-// The program is the first n bytes.
-fn front(rt: &impl Print, name: &[u8], bytes: &[u8], n: usize, commands: &[u8]) -> io::Result<()> {
-    if n > bytes.len() {
-        return Ok(());
+fn row(rt: &impl Print, r: Row) -> io::Result<()> {
+    match r.file.readable() {
+        Some(file) => walk(rt, r.name, read(file).program, r.says),
+        None => unread(rt, r.name),
     }
-    let r = file_reader::read(&bytes[0..n]);
-    walk(rt, name, r.program, commands)
-}
-
-fn row(rt: &impl Print, name: &[u8], f: File, commands: &[u8]) -> io::Result<()> {
-    if readable(f) {
-        let b = f.bytes;
-        front(rt, name, &b, f.len, commands)
-    } else {
-        unread(rt, name)
-    }
-}
-
-fn rows(rt: &impl Print, s: &[u8]) -> io::Result<()> {
-    let mut r = row_from(none(), s, 0);
-    while r.at < r.next {
-        let at = r.at;
-        let space = r.space;
-        let mark = r.mark;
-        row(rt, &s[at..space], r.file, &s[space..mark])?;
-        r = row_from(r.file, s, r.next);
-    }
-    Ok(())
 }
 
 fn main(rt: HostRuntime) -> io::Result<()> {
     let mut buffer = [0u8; 65536];
     let n = input(&rt, &mut buffer)?;
-    rows(&rt, &buffer[0..n])
+    for r in Rows::of(&buffer[..n]) {
+        row(&rt, r)?;
+    }
+    Ok(())
 }

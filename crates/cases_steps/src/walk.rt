@@ -1,16 +1,14 @@
 // The commands of a row, walked from the fresh machine.
-ghost use Rattle.std.specs.Prelude.{◌+◌, ◌≤◌, length};
-
-use crate::change::{code_field, equal_messages, one_message, program_field, thread_field};
-use cases_rows::show::state;
+use crate::change::{code_field, equal_messages, one_message, program_field, with_field};
+use crate::command::{Command, Field, command_of};
+use cases_rows::show::State;
 use cases_rows::unread;
-use certify::Certified;
+use certify::{Certified, certify};
+use machine::Machine;
 use machine::machines::fresh;
-use machine::{Machine, Message};
 use program::Program;
 use std::io;
-use step::{Stepped, TraceStep, step_refusal};
-use text::{number, text};
+use step::{Stepped, TraceStep, step, step_refusal};
 
 // What a row works on.
 #[derive(Clone, Copy)]
@@ -19,106 +17,47 @@ pub struct Setting {
     pub machine: Machine,
 }
 
-// A letter and four numbers.
-#[derive(Clone, Copy)]
-pub struct Command {
-    pub letter: u8,
-    pub a: u8,
-    pub b: u8,
-    pub c: u8,
-    pub d: u8,
-}
-
 fn told(rt: &impl Print, name: &[u8], r: Stepped) -> io::Result<()> {
-    text(rt, name)?;
-    let answer = r.answer;
-    number(rt, b' ', step_refusal(answer))?;
-    state(rt, r.machine)
+    let refusal = step_refusal(r.answer);
+    let after = State(r.machine);
+    rt.write_all(name)?;
+    println!(rt; " {refusal}{after}")
 }
 
-// s: a step, printed with its number; t: a step on the way, not printed.
-fn stepped(rt: &impl Print, name: &[u8], s: Setting, k: Command) -> io::Result<Machine> {
-    let t = TraceStep {
-        kind: k.a,
-        thread: k.b,
-        a: k.c,
-        b: k.d,
-    };
-    let r = step::step(s.program, s.machine, t);
-    if k.letter == b's' {
-        told(rt, name, r)?;
-    }
-    Ok(r.machine)
-}
-
-// c: is the thread certified?
 fn certified(rt: &impl Print, name: &[u8], s: Setting, i: u8) -> io::Result<()> {
-    text(rt, name)?;
-    let r = certify::certify(s.program, s.machine, i);
-    let answer = r.answer;
-    match answer {
-        Certified::Yes => text(rt, b" yes")?,
-        Certified::No => text(rt, b" no")?,
-        Certified::Refused(n) => number(rt, b' ', n)?,
+    rt.write_all(name)?;
+    match certify(s.program, s.machine, i).answer {
+        Certified::Yes => print!(rt; " yes")?,
+        Certified::No => print!(rt; " no")?,
+        Certified::Refused(n) => print!(rt; " {n}")?,
     }
-    state(rt, s.machine)
+    let state = State(s.machine);
+    println!(rt; "{state}")
 }
 
-// n and u.
-fn memory_set(mut x: Machine, k: Command) -> Machine {
-    let m = x.memory;
-    let w = Message {
-        location: k.b,
-        value: k.c,
-        thread: k.d,
-    };
-    if k.letter == b'n' {
-        x.memory = equal_messages(m, k.a, w);
-    } else {
-        x.memory = one_message(m, k.a, w);
-    }
-    x
+// Of a thread that is taken modulo 4.
+fn with_thread(x: Machine, thread: u8, field: Field) -> Machine {
+    let i = thread % 4;
+    x.moved(i, x.memory, with_field(x.thread_of(i), field))
 }
 
-// p, r, h, f, v and o, of a thread that is taken modulo 4.
-fn thread_set(x: Machine, k: Command) -> Machine {
-    let i = k.a % 4;
-    let s = thread_field(x.thread_of(i), k.letter, k.b, k.c, k.d);
-    x.moved(i, x.memory, s)
-}
-
-fn act(rt: &impl Print, name: &[u8], mut s: Setting, k: Command) -> io::Result<Setting> {
-    let letter = k.letter;
-    match letter {
-        b's' | b't' => {
-            let x = stepped(rt, name, s, k)?;
-            s.machine = x;
+fn act(rt: &impl Print, name: &[u8], mut s: Setting, c: Command) -> io::Result<Setting> {
+    let Setting { program, machine } = s;
+    match c {
+        Command::Step(k) => {
+            let r = step(program, machine, k);
+            told(rt, name, r)?;
+            s.machine = r.machine;
         }
-        b'c' => certified(rt, name, s, k.a)?,
-        b'g' => s.program = program_field(s.program, k.a, k.b),
-        b'i' => s.program = code_field(s.program, k.a, k.b, k.c),
-        b'n' | b'u' => s.machine = memory_set(s.machine, k),
-        b'p' | b'r' | b'h' | b'f' | b'v' | b'o' => s.machine = thread_set(s.machine, k),
-        _ => unread(rt, name)?,
+        Command::StepOnTheWay(k) => s.machine = step(program, machine, k).machine,
+        Command::Certified(i) => certified(rt, name, s, i)?,
+        Command::Program(which, v) => s.program = program_field(program, which, v),
+        Command::Code(i, count, op) => s.program = code_field(program, i, count, op),
+        Command::EqualMessages(n, w) => s.machine.memory = equal_messages(machine.memory, n, w),
+        Command::OneMessage(k, w) => s.machine.memory = one_message(machine.memory, k, w),
+        Command::Thread(i, field) => s.machine = with_thread(machine, i, field),
     }
     Ok(s)
-}
-
-// A digit stands for its distance from '0': @ is 16, A is 17, / is 255.
-fn digit(b: u8) -> u8 {
-    std::num::wrapping_sub_u8(b, b'0')
-}
-
-fn command_at(s: &[u8], at: usize) -> Command
-    requires { at + 6 ≤ length s.now }
-{
-    Command {
-        letter: s[at + 1],
-        a: digit(s[at + 2]),
-        b: digit(s[at + 3]),
-        c: digit(s[at + 4]),
-        d: digit(s[at + 5]),
-    }
 }
 
 // Each command has one space before it; one may come after the last.
@@ -127,12 +66,14 @@ pub fn walk(rt: &impl Print, name: &[u8], p: Program, commands: &[u8]) -> io::Re
         program: p,
         machine: fresh(),
     };
-    let mut at = 0;
-    while 6 <= commands.len() - at {
-        s = act(rt, name, s, command_at(commands, at))?;
-        at = at + 6;
+    let (whole, others) = commands.as_chunks::<6>();
+    for six in whole {
+        match command_of(*six) {
+            Some(c) => s = act(rt, name, s, c)?,
+            None => unread(rt, name)?,
+        }
     }
-    if 1 < commands.len() - at {
+    if others.len() > 1 {
         unread(rt, name)?;
     }
     Ok(())

@@ -4,59 +4,34 @@ ghost use Rattle.std.specs.Prelude.{◌*◌, ◌≤◌, length};
 use search::{Answer, Verdict};
 use std::io;
 use step::TraceStep;
-use text::{byte, count, number, text};
 use trace_record::step_at;
 
-fn verdict(rt: &impl Print, name: &[u8], n: u64) -> io::Result<()> {
-    text(rt, b"verdict ")?;
-    text(rt, name)?;
-    text(rt, b"\ncount")?;
-    count(rt, b' ', n as usize)?;
-    byte(rt, b'\n')
-}
-
-fn refused(rt: &impl Print, refusal: u8, place: usize) -> io::Result<()> {
-    text(rt, b"refused")?;
-    number(rt, b' ', refusal)?;
-    text(rt, b" at")?;
-    count(rt, b' ', place)?;
-    byte(rt, b'\n')
+fn verdict(rt: &impl Print, a: Answer) -> io::Result<()> {
+    let count = a.count;
+    match a.verdict {
+        Verdict::Allowed => println!(rt; "verdict allowed\ncount {count}"),
+        Verdict::Forbidden => println!(rt; "verdict forbidden\ncount {count}"),
+        Verdict::NotFinished => println!(rt; "verdict not finished\ncount {count}"),
+        Verdict::Refused(refusal, place) => println!(rt; "refused {refusal} at {place}"),
+    }
 }
 
 // Promise: thread, location, value. Execute: thread, time.
 fn step(rt: &impl Print, k: TraceStep) -> io::Result<()> {
-    if k.kind == 1 {
-        text(rt, b"promise")?;
-        number(rt, b' ', k.thread)?;
-        number(rt, b' ', k.a)?;
-        number(rt, b' ', k.b)?;
+    let TraceStep { kind, thread, a, b } = k;
+    if kind == 1 {
+        println!(rt; "promise {thread} {a} {b}")
     } else {
-        text(rt, b"execute")?;
-        number(rt, b' ', k.thread)?;
-        number(rt, b' ', k.a)?;
+        println!(rt; "execute {thread} {a}")
     }
-    byte(rt, b'\n')
-}
-
-// The first n steps of the trace.
-fn steps(rt: &impl Print, trace: &[u8], n: usize) -> io::Result<()>
-    requires { 6 * n ≤ length trace.now }
-{
-    for k in 0..n {
-        step(rt, step_at(trace, 6 * k))?;
-    }
-    Ok(())
 }
 
 pub fn answer(rt: &impl Print, a: Answer, area: &[u8]) -> io::Result<()>
     requires { 6 * a.steps ≤ length area.now }
 {
-    let v = a.verdict;
-    match v {
-        Verdict::Allowed => verdict(rt, b"allowed", a.count)?,
-        Verdict::Forbidden => verdict(rt, b"forbidden", a.count)?,
-        Verdict::NotFinished => verdict(rt, b"not finished", a.count)?,
-        Verdict::Refused(refusal, place) => refused(rt, refusal, place)?,
+    verdict(rt, a)?;
+    for k in 0..a.steps {
+        step(rt, step_at(area, 6 * k))?;
     }
-    steps(rt, area, a.steps)
+    Ok(())
 }

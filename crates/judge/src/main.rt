@@ -7,7 +7,7 @@ ghost use Rattle.std.specs.Prelude.{◌≡◌, ◌*◌, ◌≤◌, length, IfOk,
 ghost use Rattle.search.specs.Answers.{Searched};
 
 use answers::answer;
-use judge_budget::{Budget, budget_of};
+use judge_budget::budget_of;
 use search::Answer;
 use std::env::{Env, FillError};
 use std::io;
@@ -40,12 +40,12 @@ fn judge_input(rt: &(impl Input + Print + Eprint), budget: u64) -> io::Result<()
 }
 
 // What the first argument gives, and 1,000,000 where there is none. One of more than 4,096 bytes is no budget.
-fn given(rt: &impl Env) -> Budget {
+fn given(rt: &impl Env) -> Option<u64> {
     let mut text = [0u8; 4096];
     match rt.arg(1, &mut text) {
         Ok(len) => budget_of(&text[..len]),
-        Err(FillError::NotPresent) => Budget::Given(1000000),
-        Err(FillError::TooLong) => Budget::Bad,
+        Err(FillError::NotPresent) => Some(1000000),
+        Err(FillError::TooLong) => None,
     }
 }
 
@@ -60,8 +60,8 @@ fn main(rt: HostRuntime) -> io::Result<()> {
         return complain(&rt, "one budget at most");
     }
     match given(&rt) {
-        Budget::Given(budget) => judge_input(&rt, budget),
-        Budget::Bad => complain(
+        Some(budget) => judge_input(&rt, budget),
+        None => complain(
             &rt,
             "the budget is a decimal number from 0 to 18446744073709551615, or all",
         ),

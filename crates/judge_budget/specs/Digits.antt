@@ -1,8 +1,6 @@
 -- A budget as an argument: decimal digits, up to 18,446,744,073,709,551,615, or the word `all` for that.
 -- Assumes nothing.
-use Rattle.std.specs.Prelude.{Bool, true, false, cond, ◌&&◌, List, [], ◌∷◌, ℕ, ◌+◌, ◌-◌, ◌*◌, eqb, leb, length, get_or}
-pub use Rattle.judge_budget.specs.declared.Budget.{Budget}
-pub use Rattle.judge_budget.specs.declared.Budget.TheVariants.{Given, Bad}
+use Rattle.std.specs.Prelude.{Bool, true, false, cond, ◌&&◌, List, [], ◌∷◌, ℕ, ◌+◌, ◌-◌, ◌*◌, eqb, leb, length, get_or, Option, Some, None}
 
 -- the largest budget, of 64 bits
 abbrev pub largest : ℕ
@@ -28,13 +26,13 @@ some [] = false
 some (b ∷ bs) = true
 
 -- digits and nothing else, at least one, of a number up to the largest
-unfoldable pub decimal_of : List ℕ → Budget
-decimal_of text = cond (some text && (all_digits text && leb (decimal_from 0 text) largest)) (Given (decimal_from 0 text)) Bad
+unfoldable pub decimal_of : List ℕ → Option ℕ
+decimal_of text = cond (some text && (all_digits text && leb (decimal_from 0 text) largest)) (Some (decimal_from 0 text)) None
 
 -- the word `all` in ASCII
 unfoldable pub is_all : List ℕ → Bool
 is_all text = cond (eqb (length text) 3) ((eqb (get_or text 0 0) 97 && eqb (get_or text 1 0) 108) && eqb (get_or text 2 0) 108) false
 
 -- A BUDGET: `all` is the largest
-unfoldable pub budget_of : List ℕ → Budget
-budget_of text = cond (is_all text) (Given largest) (decimal_of text)
+unfoldable pub budget_of : List ℕ → Option ℕ
+budget_of text = cond (is_all text) (Some largest) (decimal_of text)

@@ -2,53 +2,31 @@
 #![tactic(auto)]
 
 ghost use Rattle.std.specs.Prelude.{◌≡◌};
-ghost use Rattle.judge_budget.specs.Digits.{is_all, decimal_of, budget_of};
+ghost use Rattle.judge_budget.specs.Digits.{decimal_of, budget_of};
 
-#[derive(Clone, Copy)]
-pub enum Budget {
-    Given(u64),
-    Bad,
-}
-
-fn is_all(text: &[u8]) -> bool
-    ensures { result ≡ is_all text.now }
-{
-    if text.len() != 3 {
-        return false;
-    }
-    (text[0] == b'a') & (text[1] == b'l') & (text[2] == b'l')
-}
-
-// A digit that would bring the number above the largest is seen before it is added.
-fn decimal_of(text: &[u8]) -> Budget
+// A number above the largest of 64 bits is none.
+fn decimal_of(text: &[u8]) -> Option<u64>
     ensures { result ≡ decimal_of text.now }
 {
-    if text.len() == 0 {
-        return Budget::Bad;
+    if text.is_empty() {
+        return None;
     }
     let mut n: u64 = 0;
-    for i in 0..text.len() {
-        let b = text[i];
-        if b < b'0' {
-            return Budget::Bad;
+    for b in text {
+        if !b.is_ascii_digit() {
+            return None;
         }
-        if b'9' < b {
-            return Budget::Bad;
-        }
-        let d = (b - b'0') as u64;
-        if (u64::MAX - d) / 10 < n {
-            return Budget::Bad;
-        }
-        n = 10 * n + d;
+        let digit = u64::from(b - b'0');
+        n = n.checked_mul(10)?.checked_add(digit)?;
     }
-    Budget::Given(n)
+    Some(n)
 }
 
-pub fn budget_of(text: &[u8]) -> Budget
+pub fn budget_of(text: &[u8]) -> Option<u64>
     ensures { result ≡ budget_of text.now }
 {
-    if is_all(text) {
-        return Budget::Given(u64::MAX);
+    if text == b"all".as_slice() {
+        return Some(u64::MAX);
     }
     decimal_of(text)
 }

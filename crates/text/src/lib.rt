@@ -1,4 +1,4 @@
-// Text, bytes and numbers printed on standard output, and standard input read.
+// Input read up to its end.
 #![tactic(auto)]
 
 ghost use Rattle.std.specs.Prelude.{◌≡◌, ◌<◌, ◌≤◌, length, take, IfOk};
@@ -6,25 +6,6 @@ ghost use Rattle.std.specs.Io.KnownBytes.{Consumes, IsAtEnd};
 
 use std::io;
 use std::io::Read;
-
-pub fn text(rt: &impl Print, s: &[u8]) -> io::Result<()> {
-    rt.write_all(s)
-}
-
-// A byte costs its callers far less to prove than a text of one byte does.
-pub fn byte(rt: &impl Print, b: u8) -> io::Result<()> {
-    let one = [b];
-    rt.write_all(&one)
-}
-
-pub fn count(rt: &impl Print, label: u8, v: usize) -> io::Result<()> {
-    byte(rt, label)?;
-    rt.print(v)
-}
-
-pub fn number(rt: &impl Print, label: u8, v: u8) -> io::Result<()> {
-    count(rt, label, v as usize)
-}
 
 // Reads until the buffer is full or the input ends, and returns how many bytes it put at the start of the buffer. A read that fails
 // ends it, and the bytes before it are lost.
@@ -34,6 +15,7 @@ pub fn read_full<R: Read>(input: &mut R, buffer: &mut [u8]) -> io::Result<usize>
     ensures bytes { IfOk result (λ n. Consumes (R.remaining input.old) (R.remaining input.new) (take n buffer.new)) }
     ensures end { IfOk result (λ n. n < length buffer.new → IsAtEnd (R.remaining input.new)) }
 {
+    // No iterator counts this: each read says how many bytes it gave.
     let mut done = 0;
     while done < buffer.len() {
         let n = input.read(&mut buffer[done..])?;

@@ -1,10 +1,12 @@
 -- `judge_budget::budget_of` meets its contract.
 -- Assumes nothing.
-use Rattle.judge_budget.proofs.Reading.{by_word, by_digits}
+use Rattle.std.proofs.Common.{sym, ap, ◌∙◌, eqb}
+use lib.Pointwise.{pointwise}
+use Rattle.judge_budget.proofs.Reading.{is_all_lem, by_word, by_digits}
 use Rattle.judge_budget.proofs.budget_of.Goals as goal
 
-pub returns-then-is_all : goal.returns-then-is_all
-returns-then-is_all c = by_word _ _ c.is_all.ensures c.if-is_all.true
+pub returns-then-eq : goal.returns-then-eq
+returns-then-eq c = by_word _ (sym (c.if-eq.ensures ∙ ap (pointwise eqb c.args.text.now) c.as_slice.ensures ∙ is_all_lem c.args.text.now))
 
 pub returns : goal.returns
-returns c = by_digits _ _ c.is_all.ensures c.if-is_all.false _ c.decimal_of.ensures
+returns c = c.decimal_of.ensures ∙ by_digits _ (sym (c.if-eq.ensures ∙ ap (pointwise eqb c.args.text.now) c.as_slice.ensures ∙ is_all_lem c.args.text.now))

@@ -1,32 +1,26 @@
 -- `judge_budget::decimal_of` meets its contract.
 -- Assumes nothing.
-use native.Mathlib.Omega.{arith}
-use Rattle.judge_budget.proofs.Reading.{none_read, read_start, read_below, read_above, read_large, read_more, read_all}
+use Rattle.std.proofs.Common.{rules, arith, sym, ◌∙◌}
+use Rattle.judge_budget.proofs.Reading.{none_read, read_start, read_other, read_large, read_more, read_all}
 use Rattle.judge_budget.proofs.decimal_of.Goals as goal
 
-pub returns-then-text-eq0 : goal.returns-then-text-eq0
-returns-then-text-eq0 c = none_read _ c.if-text-eq0.true
+pub returns-then-is_empty : goal.returns-then-is_empty
+returns-then-is_empty c = none_read _ (search rules)
 
-pub loop-i-init : goal.loop-i-init
-loop-i-init c = read_start _ c.if-text-eq0.false
+pub loop-b-init : goal.loop-b-init
+loop-b-init c = read_start _ (search rules)
 
-pub returns-then-b-lt48 : goal.returns-then-b-lt48
-returns-then-b-lt48 c = read_below c.loop-i.invariant c.loop-i-test.true c.if-b-lt48.true
+pub returns-then-not-is_ascii_digit : goal.returns-then-not-is_ascii_digit
+returns-then-not-is_ascii_digit c = read_other c.loop-b.invariant c.loop-b-test.true (sym c.if-not-is_ascii_digit.ensures.value)
 
-pub returns-then-b-gt57 : goal.returns-then-b-gt57
-returns-then-b-gt57 c = read_above c.loop-i.invariant c.loop-i-test.true c.if-b-gt57.true
+pub returns-in_err-checked_mul : goal.returns-in_err-checked_mul
+returns-in_err-checked_mul c = c.from_residual.ensures ∙ read_large c.loop-b.invariant c.loop-b-test.true (omega (arith, c.in_err-checked_mul.ensures))
 
-pub returns-then-d-n : goal.returns-then-d-n
-returns-then-d-n c = read_large c.loop-i.invariant c.loop-i-test.true (omega (arith, c.if-d-n.true))
+pub returns-in_err-n : goal.returns-in_err-n
+returns-in_err-n c = c.from_residual-in_err-n.ensures ∙ read_large c.loop-b.invariant c.loop-b-test.true (omega (arith, c.in_err-n.ensures, c.in_ok-checked_mul.ensures))
 
-pub overflow_mul-n : goal.overflow_mul-n
-overflow_mul-n c = omega (arith, c.if-d-n.false)
-
-pub overflow_add-n : goal.overflow_add-n
-overflow_add-n c = omega (arith, c.if-d-n.false)
-
-pub loop-i-preserved : goal.loop-i-preserved
-loop-i-preserved c = read_more c.loop-i.invariant c.loop-i-test.true c.if-b-lt48.false c.if-b-gt57.false (omega (arith, c.if-d-n.false))
+pub loop-b-preserved : goal.loop-b-preserved
+loop-b-preserved c = read_more c.loop-b.invariant c.loop-b-test.true (sym c.if-not-is_ascii_digit.ensures.value) _ (omega (arith, c.in_ok-n.ensures, c.in_ok-checked_mul.ensures)) (omega (arith, c.in_ok-n.ensures))
 
 pub returns : goal.returns
-returns c = read_all c.loop-i.invariant c.loop-i-test.false
+returns c = read_all c.loop-b.invariant c.loop-b-test.false
