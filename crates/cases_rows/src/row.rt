@@ -1,7 +1,8 @@
 // The rows of standard input. A line that begins with = gives a file, one that begins with + goes on with it; the rows after them are
 // about that file.
-ghost use Rattle.std.specs.Prelude.{◌≡◌, ◌++◌, ◌<◌, length, IfSome};
+ghost use Rattle.std.specs.Prelude.{◌≡◌, length, MatchOption};
 ghost use Rattle.std.specs.Iterator.{at_most};
+ghost use Rattle.cases_rows.specs.Row.{IsRow};
 
 use crate::file::File;
 use crate::lines::Lines;
@@ -33,6 +34,8 @@ impl<'a> Rows<'a> {
 
 impl<'a> Iterator for Rows<'a> {
     type Item = Row<'a>;
+
+    ghost next_gives = { λ s r t. MatchOption r (length t.lines.0.now ≡ 0) (λ row. IsRow s.lines.0.now row.name.now row.says.now t.lines.0.now) };
 
     ghost remaining = { λ s. at_most (length s.lines.0.now) };
 
