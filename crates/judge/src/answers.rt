@@ -30,6 +30,7 @@ pub fn answer(rt: &impl Print, a: Answer, area: &[u8]) -> io::Result<()>
     requires { 6 * a.steps ≤ length area.now }
 {
     verdict(rt, a)?;
+    // An index, since `step_at` takes the trace and a place in it.
     for k in 0..a.steps {
         step(rt, step_at(area, 6 * k))?;
     }
