@@ -59,15 +59,19 @@ fn beside(rt: &impl Print, published: &[u8], verdict: &str) -> io::Result<Came> 
 fn searched(rt: &impl Print, budget: u64, file: &[u8]) -> io::Result<&'static str> {
     let mut area = [0u8; 480];
     let mut table = search_table::empty();
-    let a = search::search_within(file, budget, &mut area, &mut table);
+    let a = match search::search_within(file, budget, &mut area, &mut table) {
+        Ok(a) => a,
+        Err(e) => {
+            let number = e.refusal.number();
+            let place = e.place;
+            print!(rt; " refused {number} at {place}")?;
+            return Ok("refused");
+        }
+    };
     let verdict = match a.verdict {
         Verdict::Allowed => "allowed",
         Verdict::Forbidden => "forbidden",
         Verdict::NotFinished => "not-finished",
-        Verdict::Refused(refusal, place) => {
-            print!(rt; " refused {refusal} at {place}")?;
-            return Ok("refused");
-        }
     };
     let count = a.count;
     print!(rt; " {verdict} {count}")?;

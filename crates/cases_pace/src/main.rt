@@ -4,7 +4,7 @@
 
 ghost use Rattle.std.specs.Prelude.{◌≡◌, length};
 
-use certify::{Certified, certify};
+use certify::certify;
 use file_reader::read;
 use machine::Machine;
 use machine::machines::fresh;
@@ -63,7 +63,7 @@ fn readings(rt: &(impl CpuClock + Print + Eprint), calls: u64) -> io::Result<()>
     let mut sum = 0u64;
     for i in 0..calls {
         file[646] = (i % 256) as u8;
-        let p = read(&file).program;
+        let p = read(&file).unwrap_or_default();
         sum = sum.wrapping_add(u64::from(p.question[7].value));
     }
     report(rt, "read", calls, sum, before)
@@ -77,7 +77,7 @@ fn store_buffering() -> Program {
         TH\x01\x02IN\x02\x00\x00\x00\x01\x00\x01IN\x01\x00\x00\x00\x00\x00\x00\
         QU\x00",
     )
-    .program
+    .unwrap_or_default()
 }
 
 fn with_value(x: Machine, i: u64) -> Machine {
@@ -105,7 +105,7 @@ fn execute(thread: u8, a: u8) -> TraceStep {
 
 fn run(p: Program, mut x: Machine, all: &[TraceStep]) -> Machine {
     for k in all {
-        x = step(p, x, *k).machine;
+        x = step(p, x, *k).unwrap_or(x);
     }
     x
 }
@@ -136,7 +136,7 @@ fn load_buffering() -> Program {
         TH\x01\x02IN\x01\x00\x00\x00\x00\x00\x00IN\x02\x00\x00\x00\x01\x00\x01\
         QU\x00",
     )
-    .program
+    .unwrap_or_default()
 }
 
 fn certifications(rt: &(impl CpuClock + Print + Eprint), calls: u64) -> io::Result<()> {
@@ -145,10 +145,10 @@ fn certifications(rt: &(impl CpuClock + Print + Eprint), calls: u64) -> io::Resu
     let x = run(p, fresh(), &[promise(0, 0, 1), promise(1, 1, 1)]);
     let mut sum = 0u64;
     for i in 0..calls {
-        let n = match certify(p, with_value(x, i), 0).answer {
-            Certified::Yes => 1,
-            Certified::No => 0,
-            Certified::Refused(n) => n,
+        let n = match certify(p, with_value(x, i), 0) {
+            Ok(Some(_)) => 1,
+            Ok(None) => 0,
+            Err(refusal) => refusal.number(),
         };
         sum = sum.wrapping_add(u64::from(n));
     }

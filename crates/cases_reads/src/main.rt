@@ -8,14 +8,13 @@ mod changed;
 use cases_rows::row::{Row, Rows};
 use cases_rows::{input, unread};
 use changed::changed;
-use file_reader::ReadAnswer;
 use std::io;
 
 // What is said of a file, behind its name.
 fn read(rt: &impl Print, file: &[u8]) -> io::Result<()> {
-    let (refusal, place) = match file_reader::read(file).answer {
-        ReadAnswer::Good => (0, 0),
-        ReadAnswer::Refused(refusal, place) => (refusal, place),
+    let (refusal, place) = match file_reader::read(file) {
+        Ok(_) => (0, 0),
+        Err(e) => (e.refusal.number(), e.place),
     };
     println!(rt; " {refusal} {place}")
 }

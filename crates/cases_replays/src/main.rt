@@ -9,7 +9,7 @@ use cases_rows::row::{Row, Rows};
 use cases_rows::show::State;
 use cases_rows::{input, unread};
 use std::io;
-use trace_replay::{ReplayAnswer, replay};
+use trace_replay::{ReplayRefusal, replay};
 
 fn yes_or_no(b: bool) -> &'static str {
     if b { "yes" } else { "no" }
@@ -18,9 +18,9 @@ fn yes_or_no(b: bool) -> &'static str {
 fn replayed(rt: &impl Print, name: &[u8], file: &[u8], trace: &[u8]) -> io::Result<()> {
     let r = replay(file, trace);
     let (said, refusal, index, place) = match r.answer {
-        ReplayAnswer::Good => ("good", 0, 0, 0),
-        ReplayAnswer::ProgramRefused(n, place) => ("program", n, 0, place),
-        ReplayAnswer::TraceRefused(n, index, place) => ("trace", n, index, place),
+        Ok(()) => ("good", 0, 0, 0),
+        Err(ReplayRefusal::Program(e)) => ("program", e.refusal.number(), 0, e.place),
+        Err(ReplayRefusal::Trace(e, index)) => ("trace", e.refusal.number(), index, e.place),
     };
     let steps = r.steps;
     let complete = yes_or_no(r.complete);

@@ -16,7 +16,7 @@ use walk::walk;
 
 fn row(rt: &impl Print, r: Row) -> io::Result<()> {
     match r.file.readable() {
-        Some(file) => walk(rt, r.name, read(file).program, r.says),
+        Some(file) => walk(rt, r.name, read(file).unwrap_or_default(), r.says),
         None => unread(rt, r.name),
     }
 }

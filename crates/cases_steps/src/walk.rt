@@ -3,12 +3,12 @@ use crate::change::{code_field, equal_messages, one_message, program_field, with
 use crate::command::{Command, Field, command_of};
 use cases_rows::show::State;
 use cases_rows::unread;
-use certify::{Certified, certify};
+use certify::certify;
 use machine::Machine;
 use machine::machines::fresh;
 use program::Program;
 use std::io;
-use step::{Stepped, TraceStep, step, step_refusal};
+use step::step;
 
 // What a row works on.
 #[derive(Clone, Copy)]
@@ -17,19 +17,22 @@ pub struct Setting {
     pub machine: Machine,
 }
 
-fn told(rt: &impl Print, name: &[u8], r: Stepped) -> io::Result<()> {
-    let refusal = step_refusal(r.answer);
-    let after = State(r.machine);
+// The number of a step's refusal, 0 where it is taken, and the machine after it.
+fn told(rt: &impl Print, name: &[u8], refusal: u8, x: Machine) -> io::Result<()> {
+    let after = State(x);
     rt.write_all(name)?;
     println!(rt; " {refusal}{after}")
 }
 
 fn certified(rt: &impl Print, name: &[u8], s: Setting, i: u8) -> io::Result<()> {
     rt.write_all(name)?;
-    match certify(s.program, s.machine, i).answer {
-        Certified::Yes => print!(rt; " yes")?,
-        Certified::No => print!(rt; " no")?,
-        Certified::Refused(n) => print!(rt; " {n}")?,
+    match certify(s.program, s.machine, i) {
+        Ok(Some(_)) => print!(rt; " yes")?,
+        Ok(None) => print!(rt; " no")?,
+        Err(refusal) => {
+            let number = refusal.number();
+            print!(rt; " {number}")?;
+        }
     }
     let state = State(s.machine);
     println!(rt; "{state}")
@@ -44,12 +47,14 @@ fn with_thread(x: Machine, thread: u8, field: Field) -> Machine {
 fn act(rt: &impl Print, name: &[u8], mut s: Setting, c: Command) -> io::Result<Setting> {
     let Setting { program, machine } = s;
     match c {
-        Command::Step(k) => {
-            let r = step(program, machine, k);
-            told(rt, name, r)?;
-            s.machine = r.machine;
-        }
-        Command::StepOnTheWay(k) => s.machine = step(program, machine, k).machine,
+        Command::Step(k) => match step(program, machine, k) {
+            Ok(x) => {
+                told(rt, name, 0, x)?;
+                s.machine = x;
+            }
+            Err(refusal) => told(rt, name, refusal.number(), machine)?,
+        },
+        Command::StepOnTheWay(k) => s.machine = step(program, machine, k).unwrap_or(machine),
         Command::Certified(i) => certified(rt, name, s, i)?,
         Command::Program(which, v) => s.program = program_field(program, which, v),
         Command::Code(i, count, op) => s.program = code_field(program, i, count, op),

@@ -9,6 +9,7 @@ use lib.Dec.{leb, eqb}
 use lib.ListN.{length, set, take, drop, length-append, get_or-append, take-append-drop}
 use lib.Seq.{length-take-le}
 use borrow.Author.Tests.{le-leb, leb-true, ne_eqb}
+use Rattle.std.specs.Prelude.{Result}
 use Rattle.search.specs.declared.Answer.{Answer}
 use Rattle.search.specs.Answers.{answer_on, area_on, Searched}
 use Rattle.program.specs.declared.Instruction.{Instruction}
@@ -22,14 +23,17 @@ use Rattle.program.specs.Inner.{IfReading}
 use Rattle.program.proofs.Kept.{past_demand, past_mark, past_range, each_same}
 use Rattle.program.proofs.ReadThreads.{Before, thread_read}
 use Rattle.program.proofs.ReadFormed.{Headed, Threaded, Whole, header_read, body_read, question_read}
+use Rattle.program.specs.declared.Refusal.{Refusal}
+use Rattle.program.specs.declared.Refusal.TheVariants.{InstructionCount, InstructionByte, StoreCount, ConditionByte, ThreadNumber}
+use Rattle.program.specs.declared.Refused.{Refused}
 
 -- the reading has come to place n at most
 abbrev Upto : ℕ → ℕ → ℕ → Program → Type 0
 Upto n at s p = at ≤ n
 
-demand_same : (b : Bool) (number place : ℕ) (on other : Reading) → (b ≡ true → on ≡ other) → demand b number place on ≡ demand b number place other
-demand_same true number place on other h = h refl
-demand_same false number place on other h = refl
+demand_same : (b : Bool) (r : Refusal) (place : ℕ) (on other : Reading) → (b ≡ true → on ≡ other) → demand b r place on ≡ demand b r place other
+demand_same true r place on other h = h refl
+demand_same false r place on other h = refl
 
 -- ---- f, and more behind it
 module _ (f g : List ℕ) where
@@ -69,8 +73,8 @@ module _ (f g : List ℕ) where
   thread_same i at s p h =
       marked_same at 0x54 0x48 2 _ _ (omega arith)
       (rw (byte_same (at + 2) (omega arith), byte_same (at + 3) (omega arith))
-      (demand_same (eqb (byte_at f (at + 2)) i) 10 (at + 2) _ _
-      (λ d. demand_same (leb (byte_at f (at + 3)) 16) 5 (at + 3) _ _
+      (demand_same (eqb (byte_at f (at + 2)) i) ThreadNumber (at + 2) _ _
+      (λ d. demand_same (leb (byte_at f (at + 3)) 16) InstructionCount (at + 3) _ _
       (λ e. let few = leb-true (byte_at f (at + 3)) 16 e in
       each_same (read_instruction f i) (λ k. Upto (at + 4 + 9 * k)) (byte_at f (at + 3)) (λ k a t q l u. one_upto (at + 4 + 9 * suc k) i k a t q (omega arith))
       (read_instruction (f ++ g) i) (λ k a t q l u. one_same i k a t q (omega arith)) _ (omega arith)))))
@@ -82,7 +86,7 @@ module _ (f g : List ℕ) where
 
   body_same : (x : Reading) → IfReading Headed x → 596 ≤ length f → read_body (f ++ g) x ≡ read_body f x
   unfolding read_body
-  body_same (stopped number place) h l = refl
+  body_same (stopped r place) h l = refl
   body_same (reading at s p) h l =
       let N = p.threads in
       let few = h.1 in
@@ -105,13 +109,13 @@ module _ (f g : List ℕ) where
 
   question_same : (x : Reading) → IfReading Threaded x → 647 ≤ length f → read_question (f ++ g) x ≡ read_question f x
   unfolding read_question
-  question_same (stopped number place) h l = refl
+  question_same (stopped r place) h l = refl
   question_same (reading at s p) h l =
       let few = h.2 in
       let u = h.3.place in
       marked_same at 0x51 0x55 1 _ _ (omega arith)
       (rw (byte_same (at + 2) (omega arith))
-      (demand_same (leb (byte_at f (at + 2)) 8) 8 (at + 2) _ _
+      (demand_same (leb (byte_at f (at + 2)) 8) ConditionByte (at + 2) _ _
       (λ e. let short = leb-true (byte_at f (at + 2)) 8 e in
       each_same (read_condition f) (λ k. Upto (at + 3 + 6 * k)) (byte_at f (at + 2)) (λ k a t q b v. condition_upto (at + 3 + 6 * suc k) k a t q (omega arith))
       (read_condition (f ++ g)) (λ k a t q b v. condition_same k a t q (omega arith)) _ (omega arith))))
@@ -119,7 +123,7 @@ module _ (f g : List ℕ) where
   -- ---- the end: bytes are left over, with g or without
   end_same : (x : Reading) → IfReading Whole x → 647 < length f → read_end (f ++ g) x ≡ read_end f x
   unfolding read_end
-  end_same (stopped number place) h l = refl
+  end_same (stopped r place) h l = refl
   end_same (reading at s p) h l = let u = h.1 in let n = length-append f g in rw (ne_eqb at (length (f ++ g)) (λ e. omega arith), ne_eqb at (length f) (λ e. omega arith))
 
   more_same : 647 < length f → read_file (f ++ g) ≡ read_file f
@@ -138,7 +142,7 @@ long_file f n l h =
     sym (more_same (take n f) (drop n f) (omega arith)) ∙ ap read_file (take-append-drop n f)
 
 -- so the search on its first n bytes answers what the rules say of the whole
-pub long_answer : {f : List ℕ} {b : ℕ} {area after : List ℕ} {r : Answer} (n : ℕ) → 647 < n → n ≤ length f → Searched (take n f) b area r after → Searched f b area r after
+pub long_answer : {f : List ℕ} {b : ℕ} {area after : List ℕ} {r : Result Answer Refused} (n : ℕ) → 647 < n → n ≤ length f → Searched (take n f) b area r after → Searched f b area r after
 long_answer {f} {b} {area} {after} {r} n l h s =
     let e = long_file f n l h in
     record { answer = s.answer ∙ ap (λ (y : FileAnswer). answer_on y b area) e; lent = s.lent ∙ ap (λ (y : FileAnswer). area_on y b area) e }

@@ -1,13 +1,16 @@
 -- The steps of an answer stand in the lent area.
 -- Assumes nothing.
-use mathlib.Core.Path.{◌≡◌, ap}
+use mathlib.Core.Path.{◌≡◌, sym, subst}
 use mathlib.Core.Bool.{Bool, true, false, cond}
 use mathlib.Core.List.{List}
 use Prim.Native.Nat.{ℕ, ◌*◌, ◌≤◌}
 use native.Mathlib.Omega.{arith}
 use lib.Dec.{ltb}
 use lib.ListN.{length, drop, length-append}
+use Rattle.std.specs.Prelude.{Result, Ok, IfOk}
 use Rattle.program.specs.File.{FileAnswer, refused, program, read_file}
+use Rattle.program.specs.declared.Refusal.TheVariants.{ShortArea}
+use Rattle.program.specs.declared.Refused.{Refused}
 use Rattle.step.specs.Step.{Step}
 use Rattle.trace_record.specs.Trace.{trace_bytes}
 use Rattle.theory_sequences.specs.Answer as sequences
@@ -24,17 +27,15 @@ on_program_lem (sequences.allowed n q) area =
 on_program_lem (sequences.forbidden n) area = omega arith
 on_program_lem (sequences.unfinished n) area = omega arith
 
-on_file : (f : FileAnswer) (b : ℕ) (area : List ℕ) → 6 * (answer_on f b area).steps ≤ length (area_on f b area)
-on_file (refused number place) b area = omega arith
+on_file : (f : FileAnswer) (b : ℕ) (area : List ℕ) → IfOk (answer_on f b area) (λ a. 6 * a.steps ≤ length (area_on f b area))
+on_file (refused r place) b area = tt
 on_file (program p) b area = go (ltb (length area) 480)
   where
-    go : (short : Bool) → 6 * (cond short (refusal 30 0) (answer_of (answer_to p b))).steps ≤ length (cond short area (area_of (answer_to p b) area))
-    go true = omega arith
+    go : (short : Bool) → IfOk (cond short (refusal ShortArea 0) (Ok (answer_of (answer_to p b)))) (λ a. 6 * a.steps ≤ length (cond short area (area_of (answer_to p b) area)))
+    go true = tt
     go false = on_program_lem (answer_to p b) area
 
-pub steps_fit : {file : List ℕ} {b : ℕ} {area after : List ℕ} {r : Answer} → Searched file b area r after → 6 * r.steps ≤ length after
+pub steps_fit : {file : List ℕ} {b : ℕ} {area after : List ℕ} {r : Result Answer Refused} → Searched file b area r after → IfOk r (λ a. 6 * a.steps ≤ length after)
 steps_fit {file} {b} {area} {after} {r} s =
-    let h = on_file (read_file file) b area in
-    let e : r.steps ≡ (answer_on (read_file file) b area).steps = ap (λ (a : Answer). a.steps) s.answer in
-    let l : length after ≡ length (area_on (read_file file) b area) = ap length s.lent in
-    omega arith
+    subst (λ (l : List ℕ). IfOk r (λ a. 6 * a.steps ≤ length l)) (sym s.lent)
+    (subst (λ (o : Result Answer Refused). IfOk o (λ a. 6 * a.steps ≤ length (area_on (read_file file) b area))) (sym s.answer) (on_file (read_file file) b area))

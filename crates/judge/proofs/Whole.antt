@@ -4,12 +4,14 @@ use Rattle.std.proofs.Common.{◌≡◌, ℕ, ◌+◌, ◌≤◌, ◌<◌, List,
 use Rattle.std.proofs.lemmas.List.{append-nil, take_at}
 use Rattle.std.specs.Io.KnownBytes.{Consumes, IsAtEnd}
 use native.Mathlib.Omega.{by_contra}
+use Rattle.std.specs.Prelude.{Result}
+use Rattle.program.specs.declared.Refused.{Refused}
 use Rattle.search.specs.declared.Answer.{Answer}
 use Rattle.search.specs.Answers.{Searched}
 use Rattle.judge.proofs.Long.{long_answer}
 
 -- the n bytes in the buffer were read, and left none if there is room behind them
-pub whole_input : {b : ℕ} {area after : List ℕ} {r : Answer} (known left : Option (List ℕ)) (n : ℕ) (buffer : List ℕ) → length buffer ≡ 4096 → n ≤ length buffer
+pub whole_input : {b : ℕ} {area after : List ℕ} {r : Result Answer Refused} (known left : Option (List ℕ)) (n : ℕ) (buffer : List ℕ) → length buffer ≡ 4096 → n ≤ length buffer
     → Consumes known left (take n buffer) → (n < length buffer → IsAtEnd left) → Searched (take n buffer) b area r after → IfSome known (λ f. Searched f b area r after)
 whole_input None left n buffer size fits read ended s = tt
 whole_input (Some f) None n buffer size fits read ended s = absurd read

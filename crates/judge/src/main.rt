@@ -8,6 +8,7 @@ ghost use Rattle.search.specs.Answers.{Searched};
 
 use answers::answer;
 use judge_budget::budget_of;
+use program::Refused;
 use search::Answer;
 use std::env::{Env, FillError};
 use std::io;
@@ -20,10 +21,14 @@ fn complain(rt: &impl Eprint, what: &str) -> io::Result<()> {
 
 // The answer to the whole input, of which it reads at most 4,096 bytes: a longer one has the answer of those (`long_answer`,
 // proofs/Long.antt).
-fn judged<R: Read>(input: &mut R, budget: u64, area: &mut [u8; 480]) -> io::Result<Answer>
+fn judged<R: Read>(
+    input: &mut R,
+    budget: u64,
+    area: &mut [u8; 480],
+) -> io::Result<Result<Answer, Refused>>
     ensures stays { OnErr result (area.new ≡ area.old) }
-    ensures trace { IfOk result (λ a. 6 * a.steps ≤ length area.new) }
-    ensures whole { IfOk result (λ a. IfSome (R.remaining input.old) (λ file. Searched file budget area.old a area.new)) }
+    ensures trace { IfOk result (λ r. IfOk r (λ a. 6 * a.steps ≤ length area.new)) }
+    ensures whole { IfOk result (λ r. IfSome (R.remaining input.old) (λ file. Searched file budget area.old r area.new)) }
 {
     let mut file = [0u8; 4096];
     let n = read_full(input, &mut file)?;
@@ -34,7 +39,7 @@ fn judged<R: Read>(input: &mut R, budget: u64, area: &mut [u8; 480]) -> io::Resu
 fn judge_input(rt: &(impl Input + Print + Eprint), budget: u64) -> io::Result<()> {
     let mut area = [0u8; 480];
     match judged(&mut rt.reader(), budget, &mut area) {
-        Ok(a) => answer(rt, a, &area),
+        Ok(r) => answer(rt, r, &area),
         Err(_) => complain(rt, "standard input cannot be read"),
     }
 }
