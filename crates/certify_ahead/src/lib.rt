@@ -15,14 +15,12 @@ pub fn fewer_stores(c: Code, n: u8, k: u32) -> bool
     ensures { result ≡ ltb (stores_from c n) k }
 {
     let mut found = 0u32;
-    let mut at = n;
-    while at < c.count {
+    for at in n..c.count {
         if k <= found {
             return false;
         }
         let x = c.instructions[at as usize];
-        found += x.one_store() as u32;
-        at += 1;
+        found += u32::from(x.one_store());
     }
     found < k
 }
@@ -32,13 +30,11 @@ pub fn loads_ahead(c: Code, n: u8) -> bool
     requires { c.count ≤ 16 }
     ensures { result ≡ false → Loadless c n }
 {
-    let mut k = n;
-    while k < c.count {
+    for k in n..c.count {
         let i = c.instructions[k as usize];
         if i.op == 1 {
             return true;
         }
-        k += 1;
     }
     false
 }

@@ -54,8 +54,7 @@ fn passed_over(c: Code, n: u8, m: u8) -> u16
     requires { c.count ≤ 16 }
 {
     let mut set = 0u16;
-    let mut k = n;
-    while k < c.count {
+    for k in n..c.count {
         if m <= k - n {
             return set;
         }
@@ -64,9 +63,8 @@ fn passed_over(c: Code, n: u8, m: u8) -> u16
             return ALL;
         }
         if i.op < 2 {
-            set = set | only(i.r);
+            set |= only(i.r);
         }
-        k += 1;
     }
     set
 }
@@ -89,13 +87,9 @@ fn followed(c: Code, k: u8, i: Instruction, set: u16, certain: bool) -> u16
     set | passed_over(c, k + 1, i.m)
 }
 
-// The later of two positions.
-fn later(a: u16, b: u16) -> u16 {
-    if a < b { b } else { a }
-}
-
 // The instruction at position n is a load that steers. What it reads is followed to the end, or until nothing holds it any more; over a branch
 // that looks at it, both ways at once. From position `joined` on, all ways have come together again.
+// The position skips what such a branch passes over, so it is no `for` over a range.
 pub fn steers(c: Code, n: u8) -> bool
     requires { (c.count ≤ 16) × (n < 16) }
 {
@@ -109,9 +103,9 @@ pub fn steers(c: Code, n: u8) -> bool
     while k < c.count {
         let i = c.instructions[k as usize];
         let over = branches(i, set);
-        set = followed(c, k, i, set, joined <= k as u16);
+        set = followed(c, k, i, set, joined <= u16::from(k));
         if i.op == 3 {
-            joined = later(joined, k as u16 + 1 + i.m as u16);
+            joined = joined.max(u16::from(k) + 1 + u16::from(i.m));
         }
         if (set == 0) | (set == ALL) {
             return set == 0;

@@ -3,7 +3,7 @@ ghost use Rattle.std.specs.Prelude.{◌≡◌, ℕ, eqb, length};
 ghost use Rattle.program.specs.Program.{operand, compute_mode};
 ghost use Rattle.program.specs.declared.ComputeMode.TheVariants.{Add, Subtract, ExclusiveOr};
 ghost use Rattle.machine.specs.Rules.{value_of, combine, branch_by};
-ghost use Rattle.certify_cares.specs.Cares.{Agrees, care_of, Agreeing, AgreeingBut, first_of, second_of, no_step, Tells};
+ghost use Rattle.certify_cares.specs.Cares.{Agrees, care_of, Agreeing, AgreeingBut, first_of, second_of, Tells};
 
 use crate::barred::turned;
 use crate::{barring, joined};
@@ -22,10 +22,8 @@ pub struct Step {
 
 impl Step {
     // What stands past the steps.
-    pub fn none() -> Step
-        ensures { result ≡ no_step }
-    {
-        let nothing = Instruction {
+    pub const NONE: Step = Step {
+        instruction: Instruction {
             op: 0,
             m: 0,
             r: 0,
@@ -33,14 +31,11 @@ impl Step {
             n1: 0,
             k2: 0,
             n2: 0,
-        };
-        Step {
-            instruction: nothing,
-            first: 0,
-            second: 0,
-            earlier: false,
-        }
-    }
+        },
+        first: 0,
+        second: 0,
+        earlier: false,
+    };
 }
 
 // The care for an instruction's first operand, and for its second.

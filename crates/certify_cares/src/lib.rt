@@ -76,6 +76,9 @@ pub fn joined(k: u32, l: u32) -> u32
 }
 
 impl Cares {
+    // What rests on nothing.
+    pub const NONE: Cares = Cares { of: [0; 8] };
+
     // The care for register r.
     pub fn of_register(self, r: u8) -> u32
         ensures { result ≡ care_of self.of r }
@@ -90,13 +93,11 @@ impl Cares {
     pub fn and(self, other: Cares) -> Cares
         ensures { Covers result.of self.of × Covers result.of other.of }
     {
-        let mut both = self.of;
-        let mut j = 0usize;
-        while j < 8 {
-            both[j] = joined(both[j], other.of[j]);
-            j += 1;
+        let mut of = self.of;
+        for j in 0..8 {
+            of[j] = joined(of[j], other.of[j]);
         }
-        Cares { of: both }
+        Cares { of }
     }
 
     // It rests on the operand too, as the care says.
@@ -111,7 +112,7 @@ impl Cares {
                 }
                 let mut of = self.of;
                 of[n as usize] = joined(of[n as usize], care);
-                Cares { of: of }
+                Cares { of }
             }
         }
     }
@@ -125,6 +126,6 @@ impl Cares {
         }
         let mut of = self.of;
         of[r as usize] = 0;
-        Cares { of: of }
+        Cares { of }
     }
 }

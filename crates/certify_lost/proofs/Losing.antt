@@ -28,7 +28,7 @@ use Rattle.certify_cares.specs.Cares.{Marked, Agrees, held, Agreeing, Covers}
 use Rattle.certify_cares.specs.declared.Cares.{Cares}
 use Rattle.certify_cares.proofs.Agreeing.{not_barred, same_value, not_that, not_less, less}
 use Rattle.certify_lost.specs.Lower.{Lower}
-use Rattle.certify_lost.specs.Lost.{Loss, Wanted, Goes, ComesTo, InRange, Misses, late, elsewhere, other, NextMisses, Writes, Unwritten, Holding, Writing, Passing, Farther, Above, Barred, LostIn}
+use Rattle.certify_lost.specs.Lost.{Wanted, Goes, ComesTo, InRange, Misses, late, elsewhere, other, NextMisses, Writes, Unwritten, Holding, Writing, Passing, Farther, Above, Barred, LostIn}
 use Rattle.certify_lost.proofs.Lower.{store_pre_low}
 use Rattle.certify_lost.proofs.Going.{lower_trans, goes_views, goes_holds, goes_lands, arrives_on, Crosses, first, over, crosses_here, crosses_next}
 
@@ -70,37 +70,33 @@ same_held set s y (OfRegister r) h u = h r u.0 u.1
 
 module _ (x : Instr) (s : Thread) (v : Views) (w : Wanted) (set : ℕ) (before : Cares) where
   -- what is no store cannot write the message
-  pub no_store : stores_of x ≡ 0 → Barred x s v w set before (record { certain = true; cares = before })
-  no_store n = record { covers = record { agreeing = λ s s' g. g }; bars = λ e y o g z l h k a d is. absurd (let i = ap stores_of is in omega arith) }
-
-  -- where it is certain
-  pub certainly : (r : Loss) → r.certain ≡ true → Barred x s v w set before r → (cares : Cares) → cares ≡ r.cares → Barred x s v w set before (record { certain = true; cares = cares })
-  certainly r sure b cares e = rw e (record { covers = b.covers; bars = λ t. b.bars sure })
+  pub no_store : stores_of x ≡ 0 → Barred x s v w set before before
+  no_store n = record { covers = record { agreeing = λ s s' g. g }; bars = λ y o g z l h k a d is. absurd (let i = ap stores_of is in omega arith) }
 
   module _ (how : StoreMode) (a d : Operand) (is : x ≡ Store how a d) where
     -- of a store only its own operands count
-    store_barred : (r : Loss) → Covers r.cares.of before.of
-        → (r.certain ≡ true → (y : Thread) → Above s y → Agreeing r.cares.of s y → (z : Thread) → Lower v z.views → Holding set y z → Misses w z how a d) → Barred x s v w set before r
-    store_barred r more f = record { covers = more; bars = λ e y o g z l h k a' d' is'. let i : k ≡ how = cc in let j : a' ≡ a = cc in let n : d' ≡ d = cc in rw (i, j, n) (f e y o g z l h) }
+    store_barred : (r : Cares) → Covers r.of before.of
+        → ((y : Thread) → Above s y → Agreeing r.of s y → (z : Thread) → Lower v z.views → Holding set y z → Misses w z how a d) → Barred x s v w set before r
+    store_barred r more f = record { covers = more; bars = λ y o g z l h k a' d' is'. let i : k ≡ how = cc in let j : a' ≡ a = cc in let n : d' ≡ d = cc in rw (i, j, n) (f y o g z l h) }
 
     -- the views are too large
-    pub store_late : w.time ≤ store_pre how 0 0 v → Barred x s v w set before (record { certain = true; cares = before })
-    store_late l = store_barred _ (record { agreeing = λ s s' g. g }) (λ e y o g z low h. late (le_trans l (store_pre_low how 0 0 0 0 v z.views (le_refl 0) (le_refl 0) low)))
+    pub store_late : w.time ≤ store_pre how 0 0 v → Barred x s v w set before before
+    store_late l = store_barred _ (record { agreeing = λ s s' g. g }) (λ y o g z low h. late (le_trans l (store_pre_low how 0 0 0 0 v z.views (le_refl 0) (le_refl 0) low)))
 
     -- it is to another location, and it rests on that it is to none that is wanted
     pub store_elsewhere : Unwritten set a → (Marked w.places (address (value_of s a)) → ⊥) → (k : ℕ) → k ≡ 65536 * w.places
-        → (cares : Cares) → ((s s' : Thread) → Agreeing cares.of s s' → Agreeing before.of s s' × Agrees k (value_of s a) (value_of s' a)) → Barred x s v w set before (record { certain = true; cares = cares })
+        → (cares : Cares) → ((s s' : Thread) → Agreeing cares.of s s' → Agreeing before.of s s' × Agrees k (value_of s a) (value_of s' a)) → Barred x s v w set before cares
     store_elsewhere out n k ke cares notes =
-        store_barred _ (record { agreeing = λ s s' g. (notes s s' g).0 }) (λ e y o g z low h. elsewhere (λ m.
+        store_barred _ (record { agreeing = λ s s' g. (notes s s' g).0 }) (λ y o g z low h. elsewhere (λ m.
         let at = subst (λ (i : ℕ). Marked w.places (address i)) (same_held set y z a h out) m in
         n (subst (Marked w.places) (sym (not_barred w.places (subst (λ (i : ℕ). Agrees i (value_of s a) (value_of y a)) ke (notes s y g).1) at)) at)))
 
-    -- it is certain only if it stores a value that is not wanted, and it rests on that it stores none that is
-    pub store_other : (b : Bool) (k : ℕ) → (b ≡ true → Unwritten set d × (InRange w (value_of s d) → ⊥)) → ((InRange w (value_of s d) → ⊥) → (n : ℕ) → Agrees k (value_of s d) n → InRange w n → ⊥)
-        → (cares : Cares) → ((s s' : Thread) → Agreeing cares.of s s' → Agreeing before.of s s' × Agrees k (value_of s d) (value_of s' d)) → Barred x s v w set before (record { certain = b; cares = cares })
-    store_other b k out asks cares notes =
-        store_barred _ (record { agreeing = λ s s' g. (notes s s' g).0 }) (λ e y o g z low h. other (λ m.
-        asks (out e).1 (value_of y d) (notes s y g).1 (subst (InRange w) (same_held set y z d h (out e).0) m)))
+    -- it stores a value that is not wanted, and it rests on that it stores none that is
+    pub store_other : Unwritten set d → (InRange w (value_of s d) → ⊥) → (k : ℕ) → ((InRange w (value_of s d) → ⊥) → (n : ℕ) → Agrees k (value_of s d) n → InRange w n → ⊥)
+        → (cares : Cares) → ((s s' : Thread) → Agreeing cares.of s s' → Agreeing before.of s s' × Agrees k (value_of s d) (value_of s' d)) → Barred x s v w set before cares
+    store_other out n k asks cares notes =
+        store_barred _ (record { agreeing = λ s s' g. (notes s s' g).0 }) (λ y o g z low h. other (λ m.
+        asks n (value_of y d) (notes s y g).1 (subst (InRange w) (same_held set y z d h out) m)))
 
 -- the register that an instruction writes is the one that it names
 pub writes_this : (set n : ℕ) (x y : Instr) (r : ℕ) → x ≡ y → Writes x n → (r < 16 → Marked set r) → n < 16 → (Writes y n → r ≡ n) → Marked set n
@@ -159,7 +155,7 @@ module _ (c : Code) (s : Thread) (w : Wanted) (rests : Cares) (set : ℕ) (v : V
   passed_all end y o g z a k p q is = let l = (there c z.position (Store k p q) is).0 in h.lost y o g z a (omega arith) k p q is
 
   -- one more, which cannot
-  pub passed_more : (x : Instr) → instr_at c at ≡ some x → (rests' : Cares) → Barred x s v w set rests (record { certain = true; cares = rests' })
+  pub passed_more : (x : Instr) → instr_at c at ≡ some x → (rests' : Cares) → Barred x s v w set rests rests'
       → (v' : Views) → Passing x v (leb far at) v' → (set' : ℕ) → Writing set x set' → (far' : ℕ) → Farther x at far far' → Passed c s w rests' set' v' far' (at + 1)
   passed_more x is rests' b v' passing set' writing far' farther = record { crossing = crossing'; lost = lost' }
     where
@@ -208,5 +204,5 @@ module _ (c : Code) (s : Thread) (w : Wanted) (rests : Cares) (set : ℕ) (v : V
         | no later ↦ (λ k p q g'.
             let e : z.position ≡ at = omega arith in
             let f = h.crossing y o (before y g) z (subst (λ (n : ℕ). Crosses c y n z) e (crosses_here a)) in
-            b.bars refl y o g z f.low f.holding k p q (sym (here z (Store k p q) e g')))
+            b.bars y o g z f.low f.holding k p q (sym (here z (Store k p q) e g')))
       ]

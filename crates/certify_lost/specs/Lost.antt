@@ -17,7 +17,6 @@ use Rattle.machine.specs.Rules.{next, value_of, address, store_pre, execute}
 use Rattle.certify_cares.specs.Cares.{Marked, held, Agreeing, Covers}
 use Rattle.certify_cares.specs.declared.Cares.{Cares}
 use Rattle.certify_lost.specs.Lower.{Lower}
-pub use Rattle.certify_lost.specs.declared.Loss.{Loss}
 pub use Rattle.certify_lost.specs.declared.wanted.Wanted.{Wanted}
 
 -- ---- where a thread can come to
@@ -100,10 +99,10 @@ pub record Above (s y : Thread) : Type 0 where
   pub same_position : s.position ≡ y.position
   pub views_low : Lower s.views y.views
 
--- what is known of an instruction where views are v at least, and the registers of the set may have been written: it is certain that it cannot write the message, in each thread in which is so what r rests on
-pub record Barred (x : Instr) (s : Thread) (v : Views) (w : Wanted) (set : ℕ) (before : Cares) (r : Loss) : Type 0 where
-  pub covers : Covers r.cares.of before.of
-  pub bars : r.certain ≡ true → (y : Thread) → Above s y → Agreeing r.cares.of s y
+-- the instruction cannot write the message where views are v at least, and the registers of the set may have been written, in each thread in which is so what r rests on
+pub record Barred (x : Instr) (s : Thread) (v : Views) (w : Wanted) (set : ℕ) (before r : Cares) : Type 0 where
+  pub covers : Covers r.of before.of
+  pub bars : (y : Thread) → Above s y → Agreeing r.of s y
       → (z : Thread) → Lower v z.views → Holding set y z → (k : StoreMode) (a d : Operand) → x ≡ Store k a d → Misses w z k a d
 
 -- lost in each thread in which is so what that rests on

@@ -12,8 +12,7 @@ fn stores_from(i: Instruction, r: u8) -> bool {
 fn feeds(c: Code, n: u8, r: u8) -> bool
     requires { c.count ≤ 16 }
 {
-    let mut k = n;
-    while k < c.count {
+    for k in n..c.count {
         let i = c.instructions[k as usize];
         if stores_from(i, r) {
             return true;
@@ -21,7 +20,6 @@ fn feeds(c: Code, n: u8, r: u8) -> bool
         if (i.op < 2) & (i.r == r) {
             return false;
         }
-        k += 1;
     }
     false
 }
@@ -31,7 +29,7 @@ fn feeds(c: Code, n: u8, r: u8) -> bool
 pub fn telling(c: Code, n: u8) -> bool
     requires { c.count ≤ 16 }
 {
-    if c.count as u16 <= n as u16 + 1 {
+    if u16::from(c.count) <= u16::from(n) + 1 {
         return false;
     }
     if n == 0 {

@@ -1,6 +1,6 @@
 -- Going through instructions that have one way to go on by position, registers and views, and the way back.
 -- Assumes nothing.
-use Rattle.std.proofs.Common.{◌≡◌, ℕ, suc, ◌+◌, ◌-◌, ◌%◌, ◌<◌, ◌≤◌, max, Bool, true, false, not, ◌||◌, eqb, ◌⊎◌, List, length, get_or, set, sym, refl, ap, ◌∙◌, subst, inl, inr, arith, length-set, get_or-set_other, get_or-set_same, lt-ltb, eq-eqb, ne_eqb}
+use Rattle.std.proofs.Common.{◌≡◌, ℕ, suc, ◌+◌, ◌-◌, ◌%◌, ◌<◌, ◌≤◌, max, Bool, true, false, not, ◌||◌, eqb, ◌⊎◌, List, length, get_or, set, sym, refl, ap, ◌∙◌, subst, inl, inr, arith, length-set, get_or-set_other, get_or-set_same, lt-ltb, eq-eqb, ne_eqb, Option, None, Some}
 use mathlib.Core.Option.{none, some, some-injective}
 use native.Mathlib.Decide.{ℕ_discrete}
 use lib.ListN.{get_or-eq_default}
@@ -15,7 +15,7 @@ use Rattle.machine.specs.Rules.{value_of, view_of, combine, compute_done, branch
 use Rattle.certify_runs.specs.Below.{Code, OfRegister, Instr, Compute, Branch, Fence, Register, Views, Thread}
 use Rattle.certify_cares.specs.Cares.{Agrees, care_of, Agreeing, AgreeingBut, first_of, second_of, no_step, Tells}
 use Rattle.certify_under.specs.Threads.{standing}
-use Rattle.certify_straight.specs.Straight.{Step, result_of, step_over, passed_at, plainly, Halts, Walked, start, further, Ended}
+use Rattle.certify_straight.specs.Straight.{Step, Fork, result_of, step_over, passed_at, plainly, Halts, Walked, start, further, Ended}
 use Rattle.certify_straight.proofs.Plain.{no_thread, plain_compute, plain_branch, plain_fence, op_halts}
 use Rattle.certify_straight.proofs.Backwards.{Backwards, back_none, back_compute, back_branch, back_fence}
 
@@ -111,9 +111,9 @@ kept_steps {c} {s} {steps} j e l (further {j = k} {y = y} x w g p i t) =
 
 -- the thread there, and how the way ends
 on_ended : {c : Code} {s : Thread} {registers : List Register} {n : ℕ} {views : Views} {steps : List Step} {j : ℕ} → On c s registers n views steps j → (y : Thread) → y ≡ standing s registers n views
-    → (o : ℕ) → Ended c s steps j (standing s registers n views) o → Ended c s steps j y o × (Walked c s steps j y × (j ≤ 16))
-on_ended {c} {s} {steps = steps} {j = j} on y is o ended =
-    (subst (λ (z : Thread). Ended c s steps j z o) (sym is) ended, (subst (Walked c s steps j) (sym is) on.walked, on.few))
+    → (f : Option Fork) → Ended c s steps j (standing s registers n views) f → Ended c s steps j y f × (Walked c s steps j y × (j ≤ 16))
+on_ended {c} {s} {steps = steps} {j = j} on y is f ended =
+    (subst (λ (z : Thread). Ended c s steps j z f) (sym is) ended, (subst (Walked c s steps j) (sym is) on.walked, on.few))
 
 -- one more instruction
 module _ {c : Code} {s : Thread} {registers : List Register} {n : ℕ} {views : Views} {steps : List Step} {j : ℕ} (o : On c s registers n views steps j) (l : n < c.count) (short : c.count ≤ 16) (e : Step)
@@ -209,25 +209,21 @@ module _ {c : Code} {s : Thread} {registers : List Register} {n : ℕ} {views : 
     turn_branch = turned registers (n + m) w (omega arith) u.on.registers_long (plain_branch (decode here) now (standing s registers (n + m) w) (op_branch here e) branched)
 
     -- the way ends after it, and the other way is told
-    pub turn_fork : m ≤ here.m + 1 → (y : Thread) → y ≡ standing s registers (n + m) w → (o : ℕ) → o ≡ n + (here.m + 2 - m)
-        → Ended c s (set steps j step) (j + 1) y o × (Walked c s (set steps j step) (j + 1) y × (j + 1 ≤ 16))
-    turn_fork l y is o leads-to =
+    pub turn_fork : m ≤ here.m + 1 → (y : Thread) → y ≡ standing s registers (n + m) w → (f : Fork) → f.other ≡ n + (here.m + 2 - m)
+        → Ended c s (set steps j step) (j + 1) y (Some f) × (Walked c s (set steps j step) (j + 1) y × (j + 1 ≤ 16))
+    turn_fork l y is f leads-to =
         let one_less : j ≡ j + 1 - 1 = omega arith in
-        on_ended turn_branch y is o
+        on_ended turn_branch y is (Some f)
         (record {
-          halts = λ d. absurd (omega arith);
-          forks = λ d.
-              record {
-                some_step = omega arith;
-                before = now;
-                walked = subst (λ (k : ℕ). Walked c s (set steps j step) k now) one_less (kept_steps j step (omega arith) u.on.walked);
-                over = here.m;
-                a = first_of here;
-                b = second_of here;
-                is_next = instr_is c n u.inside ∙ ap some (op_branch here e);
-                after = branched;
-                other_way = rw (leads-to, h, first.0, second.0) (ap (λ (k : ℕ). n + k) (other_by (eqb (value_of now (first_of here)) (value_of now (second_of here))) here.m));
-              };
+          some_step = omega arith;
+          before = now;
+          walked = subst (λ (k : ℕ). Walked c s (set steps j step) k now) one_less (kept_steps j step (omega arith) u.on.walked);
+          over = here.m;
+          a = first_of here;
+          b = second_of here;
+          is_next = instr_is c n u.inside ∙ ap some (op_branch here e);
+          after = branched;
+          other_way = rw (leads-to, h, first.0, second.0) (ap (λ (k : ℕ). n + k) (other_by (eqb (value_of now (first_of here)) (value_of now (second_of here))) here.m));
         })
 
   pub turn_fence : decode here ≡ Fence (fence_mode here.m) → (w : Views) → w ≡ fence_views (fence_mode here.m) views → On c s registers (n + 1) w (set steps j step) (j + 1)
@@ -238,8 +234,8 @@ pub on_start : (c : Code) (s : Thread) (steps : List Step) → length steps ≡ 
 on_start c s steps l h = record { far = omega arith; few = omega arith; steps_long = l; registers_long = h; walked = start }
 
 pub on_gone : {c : Code} {s : Thread} {registers : List Register} {n : ℕ} {views : Views} {steps : List Step} {j : ℕ} → On c s registers n views steps j → (y : Thread) → y ≡ standing s registers n views
-    → Halts c (standing s registers n views) → Ended c s steps j y 0 × (Walked c s steps j y × (j ≤ 16))
-on_gone o y is halted = on_ended o y is 0 (record { halts = λ z. halted; forks = λ d. absurd (d refl) })
+    → Halts c (standing s registers n views) → Ended c s steps j y None × (Walked c s steps j y × (j ≤ 16))
+on_gone o y is halted = on_ended o y is None halted
 
 -- ---- the way back
 -- one step back from z: the thread before the last of the steps, and the cares there

@@ -1,6 +1,8 @@
 -- Instructions that have one way to go on: computes, branches and fences.
 -- Assumes nothing.
-use Rattle.std.specs.Prelude.{◌≡◌, ℕ, suc, ◌+◌, ◌-◌, ◌<◌, max, not, List, ◌==◌, ◌≢◌, nat_le, slice_index_or}
+use Rattle.std.specs.Prelude.{◌≡◌, ℕ, suc, ◌+◌, ◌-◌, ◌<◌, max, not, List, ◌==◌, nat_le, slice_index_or}
+use Rattle.std.specs.Prelude as std
+use Rattle.std.specs.Option.{MatchOption}
 use Rattle.std.proofs.Math.Option.{Option, none, some}
 use Rattle.program.specs.declared.Instruction.{Instruction}
 use Rattle.program.specs.Program.{compute_mode, instruction_at, instr_at}
@@ -8,6 +10,7 @@ use Rattle.machine.specs.Rules.{value_of, combine, compute_done, branch_by, bran
 use Rattle.certify_runs.specs.Below.{Code, Operand, Instr, Compute, Load, Store, Branch, Fence, Register, Thread}
 use Rattle.certify_cares.specs.Cares.{no_step, Tells}
 pub use Rattle.certify_cares.specs.declared.before.Step.{Step}
+pub use Rattle.certify_straight.specs.declared.Fork.{Fork}
 
 -- what such an instruction leaves
 unfoldable pub plainly : Instr → Thread → Option Thread
@@ -56,7 +59,6 @@ pub record Forked (c : Code) (s : Thread) (steps : List Step) (count : ℕ) (y :
   pub after : y ≡ branch_done over a b before
   pub other_way : o ≡ before.position + branch_by (not (value_of before a == value_of before b)) over
 
--- ENDED: the thread has come to its next load or store or its end; or, where o is not 0, it has gone over a branch that leads to o on the other way
-pub record Ended (c : Code) (s : Thread) (steps : List Step) (count : ℕ) (y : Thread) (o : ℕ) : Type 0 where
-  pub halts : o ≡ 0 → Halts c y
-  pub forks : (o ≢ 0) → Forked c s steps count y o
+-- ENDED: the thread has come to its next load or store or its end; or it has gone over a branch to be looked at both ways
+abbrev pub Ended : Code → Thread → List Step → ℕ → Thread → std.Option Fork → Type 0
+Ended c s steps count y fork = MatchOption fork (Halts c y) (λ f. Forked c s steps count y f.other)

@@ -18,15 +18,21 @@ use machine::merge::larger;
 use machine::{Register, Thread, Views};
 use program::{Code, Instruction};
 
-// Where a thread has come to, and the instructions that it has gone through, in order. Where the last of them is a branch to be looked at both
-// ways, the position to which it leads on the other way, and the register that it would hold fast; else 0.
+// Of a branch to be looked at both ways: the position to which it leads on the other way, and the register that it would hold fast.
+#[derive(Clone, Copy)]
+pub struct Fork {
+    pub other: u8,
+    pub held: u8,
+}
+
+// Where a thread has come to, and the instructions that it has gone through, in order; and whether the last of them is a branch to be looked at
+// both ways.
 #[derive(Clone, Copy)]
 pub struct Walk {
     pub thread: Thread,
     pub steps: [Step; 16],
     pub count: usize,
-    pub other: u8,
-    pub held: u8,
+    pub fork: Option<Fork>,
 }
 
 // What the operand (k, n) holds, and its view. Lent is what register n modulo 8 holds, so that the registers are not copied.
@@ -142,22 +148,21 @@ pub fn halts(c: Code, n: u8) -> bool
 // branches and fences up to there, with what their operands hold. Of the thread they change the position, the registers and the views.
 pub fn straight(c: Code, s: Thread, both_ways: bool) -> Walk
     requires { CodeOk c }
-    ensures { Ended c s result.steps result.count result.thread result.other × (Walked c s result.steps result.count result.thread × (result.count ≤ 16)) }
+    ensures { Ended c s result.steps result.count result.thread result.fork × (Walked c s result.steps result.count result.thread × (result.count ≤ 16)) }
 {
     let mut registers = s.registers;
     let mut n = s.position;
     let mut views = s.views;
-    let mut steps = [Step::none(); 16];
+    let mut steps = [Step::NONE; 16];
     let mut count = 0usize;
     while n < c.count {
         let i = c.instructions[n as usize];
         if (i.op == 1) | (i.op == 2) {
             return Walk {
                 thread: standing(s, registers, n, views),
-                steps: steps,
-                count: count,
-                other: 0,
-                held: 0,
+                steps,
+                count,
+                fork: None,
             };
         }
         let a = operand_in(i.k1, i.n1, registers[(i.n1 % 8) as usize]);
@@ -175,10 +180,12 @@ pub fn straight(c: Code, s: Thread, both_ways: bool) -> Walk
             if both_ways & open(i, a, b) {
                 return Walk {
                     thread: standing(s, registers, n + by, views),
-                    steps: steps,
-                    count: count,
-                    other: n + (i.m + 2 - by),
-                    held: earlier(i, a, b),
+                    steps,
+                    count,
+                    fork: Some(Fork {
+                        other: n + (i.m + 2 - by),
+                        held: earlier(i, a, b),
+                    }),
                 };
             }
             n += by;
@@ -189,10 +196,9 @@ pub fn straight(c: Code, s: Thread, both_ways: bool) -> Walk
     }
     Walk {
         thread: standing(s, registers, n, views),
-        steps: steps,
-        count: count,
-        other: 0,
-        held: 0,
+        steps,
+        count,
+        fork: None,
     }
 }
 
@@ -214,5 +220,5 @@ pub fn before_straight(w: Walk, count: usize, k: Cares) -> Cares
             before_branch(&mut of, e);
         }
     }
-    Cares { of: of }
+    Cares { of }
 }

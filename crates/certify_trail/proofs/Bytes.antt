@@ -5,10 +5,6 @@ use Prim.Native.Nat.{ℕ, zero, suc, ◌+◌, ◌*◌, ◌%◌, ◌<◌}
 use native.Mathlib.Omega.{arith}
 use Rattle.certify_trail.specs.Trail.{byte_of}
 
--- a byte that is none of the lower three is the highest
-pub highest : {j : ℕ} → j < 4 → (j ≡ 0 → ⊥) → (j ≡ 1 → ⊥) → (j ≡ 2 → ⊥) → j ≡ 3
-highest h d d' d'' = omega arith
-
 -- the word r has b as byte j, and below it the bytes of the word w
 abbrev pub Put : ℕ → ℕ → ℕ → ℕ → Type 0
 Put w j b r = (byte_of r j ≡ b) × ((i : ℕ) → i < j → byte_of r i ≡ byte_of w i)

@@ -2,7 +2,7 @@
 -- Assumes nothing.
 use mathlib.Core.Path.{◌≡◌, refl, sym, ap, subst, ◌∙◌}
 use mathlib.Core.List.{List, [], ◌∷◌}
-use Prim.Native.Nat.{ℕ, suc, ◌+◌, ◌-◌, ◌*◌, ◌/◌, ◌%◌, ◌≤◌, ◌<◌}
+use Prim.Native.Nat.{ℕ, suc, ◌+◌, ◌*◌, ◌/◌, ◌%◌, ◌≤◌, ◌<◌}
 use native.Mathlib.Decide.{dec_lt}
 use native.Mathlib.Omega.{arith}
 use lib.ListN.{length, get_or, set, length-set}
@@ -72,13 +72,12 @@ pub passed_none : {words : List ℕ} {count : ℕ} {l : List RunStep} → Trail 
 passed_none {l = l} t r = record { written = l; trail_of = t; rest = refl; room = r }
 
 -- one more is
-pub passed_more : {words words' : List ℕ} {count left : ℕ} {l : List RunStep} → 0 < left → ((k : List RunStep) → Trail words k → length k < 16 → Trail words' (executed 0 ∷ k))
-    → Passed words count left l → Passed words' count (left - 1) l
+pub passed_more : {words words' : List ℕ} {count left left' : ℕ} {l : List RunStep} → suc left' ≡ left → ((k : List RunStep) → Trail words k → length k < 16 → Trail words' (executed 0 ∷ k))
+    → Passed words count left l → Passed words' count left' l
 unfolding passing
-passed_more {left = left} h more p =
+passed_more e more p =
     let q = p.room in
     let k = p.written in
-    let e : suc (left - 1) ≡ left = omega arith in
     record { written = executed 0 ∷ k; trail_of = more k p.trail_of (omega arith); rest = ap (λ (n : ℕ). passing n k) e ∙ p.rest; room = omega arith }
 
 -- all are

@@ -48,7 +48,7 @@ pub fn preceded(k: Cares, kind: u8, time: u8) -> Cares
     let at = (n / 4) as usize;
     of[at] = with_byte(of[at], n % 4, 32 * kind + time);
     of[4] = n + 1;
-    Cares { of: of }
+    Cares { of }
 }
 
 // So many instructions before them that are executed at time 0.
@@ -56,10 +56,8 @@ pub fn passed(k: Cares, count: usize) -> Cares
     ensures { (l : List RunStep) → Trail k.of l → length l + count ≤ 16 → Trail result.of (passing count l) }
 {
     let mut r = k;
-    let mut left = count;
-    while 0 < left {
+    for _ in 0..count {
         r = preceded(r, 0, 0);
-        left -= 1;
     }
     r
 }
@@ -69,20 +67,18 @@ pub fn run_of(k: Cares) -> Run
     ensures { (l : List RunStep) → Trail k.of l → length l ≤ 16 → result ≡ run_of l }
 {
     let of = k.of;
-    let count = if of[4] <= 16 { of[4] } else { 16 };
+    let count = of[4].min(16);
     let mut steps = [RunStep { kind: 0, time: 0 }; 16];
-    let mut n = 0u32;
-    while n < count {
+    for n in 0..count {
         let from_end = count - n - 1;
         let step = byte_of(of[(from_end / 4) as usize], from_end % 4);
         steps[n as usize] = RunStep {
             kind: step / 32,
             time: step % 32,
         };
-        n += 1;
     }
     Run {
-        steps: steps,
+        steps,
         count: count as u8,
     }
 }

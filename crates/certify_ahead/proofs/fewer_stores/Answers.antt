@@ -1,6 +1,6 @@
 -- `certify_ahead::fewer_stores` meets its contract.
 -- Assumes nothing.
-use mathlib.Core.Path.{◌≡◌}
+use mathlib.Core.Path.{◌≡◌, ◌∙◌}
 use Prim.Native.Nat.{◌<◌}
 use native.Mathlib.Omega.{arith}
 use lib.ListN.{length}
@@ -14,15 +14,12 @@ loop-at-init c = (omega arith, omega arith)
 pub returns-then-k-found : goal.returns-then-k-found
 returns-then-k-found c = counted_enough _ _ _ _ _ c.loop-at.invariant c.if-k-found.true
 
-pub overflow_cast-found : goal.overflow_cast-found
-overflow_cast-found c = let o = counts_one _ _ c.one_store.ensures in omega arith
-
 pub overflow_add-found : goal.overflow_add-found
 overflow_add-found c = let o = counts_one _ _ c.one_store.ensures in let i = c.loop-at.invariant.1 in let l = c.loop-at-test.true in let h = c.requires in omega arith
 
 pub loop-at-preserved : goal.loop-at-preserved
 loop-at-preserved c =
-    let d = c.args.c in let size : length d.instructions ≡ 16 = search length_mapped depth 7 in let l = c.loop-at-test.true in let h = c.requires in let in_code : c.loop-at.at < length d.instructions = omega arith in counted_more _ _ _ _ _ _ c.loop-at.invariant l (get_d_any _ _ d.instructions c.loop-at.at in_code) c.one_store.ensures
+    let d = c.args.c in let size : length d.instructions ≡ 16 = search length_mapped depth 7 in let l = c.loop-at-test.true in let h = c.requires in let in_code : c.loop-at.at < length d.instructions = omega arith in counted_more _ _ _ _ _ _ c.loop-at.invariant l (get_d_any _ _ d.instructions c.loop-at.at in_code) (c.from-found.ensures ∙ c.one_store.ensures)
 
 pub returns : goal.returns
 returns c = rw (counted_all _ _ _ _ c.loop-at.invariant c.loop-at-test.false)

@@ -10,14 +10,14 @@ use Rattle.certify_ahead.proofs.Loads.{none_more, none_all}
 use Rattle.certify_ahead.proofs.loads_ahead.Goals as goal
 
 pub loop-k-init : goal.loop-k-init
-loop-k-init c = (omega arith, λ j low l. absurd (omega arith))
+loop-k-init c = λ j low l. absurd (omega arith)
 
 pub returns-then-i-eq1 : goal.returns-then-i-eq1
 returns-then-i-eq1 c = λ e. absurd (subst T e tt)
 
 pub loop-k-preserved : goal.loop-k-preserved
 loop-k-preserved c =
-    let d = c.args.c in let size : length d.instructions ≡ 16 = search length_mapped depth 7 in let l = c.loop-k-test.true in let h = c.requires in let v = c.loop-k in let in_code : v.k < length d.instructions = omega arith in (omega (arith, v.invariant.0), none_more d _ v.k _ v.invariant.1 (get_d_any _ _ d.instructions v.k in_code) c.if-i-eq1.false)
+    let d = c.args.c in let size : length d.instructions ≡ 16 = search length_mapped depth 7 in let l = c.loop-k-test.true in let h = c.requires in let v = c.loop-k in let in_code : v.k < length d.instructions = omega arith in none_more d _ v.k _ v.invariant (get_d_any _ _ d.instructions v.k in_code) c.if-i-eq1.false
 
 pub returns : goal.returns
-returns c = λ e. none_all _ _ _ c.loop-k.invariant.1 c.loop-k-test.false
+returns c = λ e. none_all _ _ _ c.loop-k.invariant c.loop-k-test.false

@@ -1,6 +1,6 @@
 -- `certify_straight::fenced` meets its contract: one case for each mode.
 -- Assumes nothing.
-use Rattle.std.proofs.Common.{ne_eqb}
+use Rattle.std.proofs.Common.{arith, ne_eqb}
 use Rattle.program.specs.Program.{fence_mode}
 use Rattle.certify_straight.proofs.fenced.Goals as goal
 
@@ -19,4 +19,4 @@ returns-in-2 c = rw (c.raise_w_new-in-2.ensures, c.in-2.is)
 pub returns-in_default : goal.returns-in_default
 unfolding fence_mode
 returns-in_default c =
-    simp (c.raise_r_new-in_default.ensures, ne_eqb _ _ c.in_default.in_default-own.rest.0.0.1, ne_eqb _ _ c.in_default.in_default-own.rest.0.1, ne_eqb _ _ c.in_default.in_default-own.rest.1)
+    simp (c.raise_r_new-in_default.ensures, ne_eqb c.args.m 0 (omega arith), ne_eqb c.args.m 1 (omega arith), ne_eqb c.args.m 2 (omega arith))

@@ -20,9 +20,9 @@ returns-in-2 c = rw c.in-2.is
 pub returns-then-x-y : goal.returns-then-x-y
 unfolding combine compute_mode
 returns-then-x-y c =
-    simp (ne_eqb _ _ c.in_default.in_default-own.rest.0.0.1, ne_eqb _ _ c.in_default.in_default-own.rest.0.1, ne_eqb _ _ c.in_default.in_default-own.rest.1, eq-eqb _ _ c.if-x-y.true)
+    simp (ne_eqb c.args.m 0 (omega arith), ne_eqb c.args.m 1 (omega arith), ne_eqb c.args.m 2 (omega arith), eq-eqb _ _ c.if-x-y.true)
 
 pub returns-else-x-y : goal.returns-else-x-y
 unfolding combine compute_mode
 returns-else-x-y c =
-    simp (ne_eqb _ _ c.in_default.in_default-own.rest.0.0.1, ne_eqb _ _ c.in_default.in_default-own.rest.0.1, ne_eqb _ _ c.in_default.in_default-own.rest.1, ne_eqb _ _ c.if-x-y.false)
+    simp (ne_eqb c.args.m 0 (omega arith), ne_eqb c.args.m 1 (omega arith), ne_eqb c.args.m 2 (omega arith), ne_eqb _ _ c.if-x-y.false)

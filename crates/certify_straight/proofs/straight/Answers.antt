@@ -45,7 +45,7 @@ overflow_add-result-then-both_ways-open c =
 pub returns-then-both_ways-open : goal.returns-then-both_ways-open
 returns-then-both_ways-open c =
     let turn = a_turn c.operand_in-a.result c.operand_in-b.result c.loop-n.invariant c.step_over.ensures c.loop-n-test.true c.requires.short c.operand_in-a.ensures c.operand_in-b.ensures in
-    turn_fork turn c.if-i-eq3.true _ c.passed-by.ensures.1.0 c.passed-by.ensures.0 _ (rw (c.raise_cap-views.ensures, c.larger.ensures) refl) c.passed-by.ensures.1.1 _ c.standing-then-both_ways-open.ensures _ refl
+    turn_fork turn c.if-i-eq3.true _ c.passed-by.ensures.1.0 c.passed-by.ensures.0 _ (rw (c.raise_cap-views.ensures, c.larger.ensures) refl) c.passed-by.ensures.1.1 _ c.standing-then-both_ways-open.ensures (record { other = _; held = c.earlier.result }) refl
 
 pub overflow_add-n-then-i-eq3 : goal.overflow_add-n-then-i-eq3
 overflow_add-n-then-i-eq3 c =

@@ -1,8 +1,9 @@
 -- `certify_trail::byte_of` meets its contract: one case for each byte.
 -- Assumes nothing.
 use mathlib.Core.Path.{◌≡◌}
+use native.Mathlib.Omega.{arith}
 use Rattle.certify_trail.specs.Trail.{byte_of}
-use Rattle.certify_trail.proofs.Bytes.{highest}
+
 use Rattle.certify_trail.proofs.byte_of.Goals as goal
 
 pub returns-in-0 : goal.returns-in-0
@@ -19,4 +20,4 @@ returns-in-2 c = rw c.in-2.is
 
 pub returns-in_default : goal.returns-in_default
 unfolding byte_of
-returns-in_default c = let m = c.in_default.in_default-own.rest in let e : c.args.j ≡ 3 = highest c.requires m.0.0.1 m.0.1 m.1 in rw e
+returns-in_default c = let e : c.args.j ≡ 3 = omega (arith, c.requires) in rw e

@@ -4,14 +4,10 @@ use native.Mathlib.Omega.{arith}
 use Rattle.certify_runs.specs.Values.{entries}
 use Rattle.certify_trail.proofs.Read.{reading_none, reading_more, reading_all}
 use Rattle.certify_trail.proofs.run_of.Goals as goal
-use Rattle.certify_trail.proofs.run_of.Goals.{then-of-le16, else-of-le16}
 
 pub loop-n-init : goal.loop-n-init
 unfolding entries
-loop-n-init c = elim c.if-of-le16.branch [
-  | then-of-le16 w ↦ reading_none (omega arith) (λ l t r. let e = t.count in omega arith)
-  | else-of-le16 w ↦ reading_none (omega arith) (λ l t r. let e = t.count in omega arith)
-]
+loop-n-init c = reading_none (omega arith) (λ l t r. let e = t.count in omega arith)
 
 pub loop-n-preserved : goal.loop-n-preserved
 loop-n-preserved c = reading_more c.loop-n.invariant c.loop-n-test.true c.byte_of-step.ensures (omega arith)

@@ -2,7 +2,7 @@
 -- Assumes nothing.
 use mathlib.Core.Path.{◌≡◌}
 use native.Mathlib.Omega.{arith}
-use Rattle.certify_trail.proofs.Bytes.{highest, put_0, put_1, put_2, put_3}
+use Rattle.certify_trail.proofs.Bytes.{put_0, put_1, put_2, put_3}
 use Rattle.certify_trail.proofs.with_byte.Goals as goal
 
 pub returns-in-0 : goal.returns-in-0
@@ -17,6 +17,5 @@ returns-in-2 c = let a = c.args in rw c.in-2.is (put_2 a.word a.b (omega arith))
 pub returns-in_default : goal.returns-in_default
 returns-in_default c =
     let a = c.args in
-    let m = c.in_default.in_default-own.rest in
-    let e : a.j ≡ 3 = highest c.requires m.0.0.1 m.0.1 m.1 in
+    let e : a.j ≡ 3 = omega (arith, c.requires) in
     rw e (put_3 a.word a.b (omega arith))

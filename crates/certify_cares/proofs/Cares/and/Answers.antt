@@ -13,8 +13,8 @@ loop-j-init c = (search length_mapped depth 7, λ j x y a. (a, λ l. absurd (ome
 pub loop-j-preserved : goal.loop-j-preserved
 loop-j-preserved c =
     let h : length c.args.other.of ≡ 8 = search length_mapped depth 7 in
-    let e = length-set c.loop-j.both c.loop-j.j c.joined.result in
-    (omega arith, joined_more c.args.self.of c.args.other.of c.loop-j.both c.loop-j.j c.loop-j.invariant.1 c.joined.result (omega arith) (omega arith) c.joined.ensures)
+    let e = length-set c.loop-j.of c.loop-j.j c.joined.result in
+    (omega arith, joined_more c.args.self.of c.args.other.of c.loop-j.of c.loop-j.j c.loop-j.invariant.1 c.joined.result (omega arith) (omega arith) c.joined.ensures)
 
 pub returns : goal.returns
-returns c = joined_all c.args.self.of c.args.other.of c.loop-j.both c.loop-j.j c.loop-j.invariant.1 (omega arith)
+returns c = joined_all c.args.self.of c.args.other.of c.loop-j.of c.loop-j.j c.loop-j.invariant.1 (omega arith)
