@@ -5,8 +5,8 @@ use mathlib.Core.Logic.{◌⊎◌, inl, inr, ⊎_elim}
 use mathlib.Core.Bool.{Bool, true, false, not}
 use mathlib.Core.List.{List}
 use mathlib.Core.Option.{some}
+use Rattle.std.proofs.Common.{Option, None, Some}
 use Prim.Native.Nat.{ℕ, ◌+◌, ◌<◌}
-use native.Mathlib.Decide.{ℕ_discrete}
 use native.Mathlib.Omega.{arith}
 use lib.Dec.{eqb}
 use Rattle.program.specs.Program.{instr_at}
@@ -19,6 +19,7 @@ use Rattle.certify_under.specs.Threads.{at_position}
 use Rattle.certify_under.specs.Under.{Rests}
 use Rattle.certify_under.proofs.Resting.{branch_rests, other_rests}
 use Rattle.certify_straight.specs.Straight.{Step, Leads, here, on, Halts, Walked, Forked, Ended}
+use Rattle.certify_straight.specs.declared.Fork.{Fork}
 use Rattle.certify_straight.proofs.Plain.{leads_further, walked_leads, walked_further, plain_branch}
 use Rattle.certify_sought.specs.declared.Met.{Met}
 use Rattle.certify_sought.specs.declared.Sought.{Sought}
@@ -87,8 +88,10 @@ module _ (c : Code) (s y : Thread) (steps : List Step) (count o : ℕ) (f : Fork
         }
 
 -- a walk leads further, whether it ends at a load or store or after a branch
-pub ended_further : {c : Code} {s y : Thread} {steps : List Step} {count o : ℕ} → Ended c s steps count y o → Walked c s steps count y → (Halts c s → ⊥) → s.position < y.position
-ended_further {c = c} {s = s} {y = y} {steps = steps} {count = count} {o = o} e w n = elim (ℕ_discrete o 0) [
-  | yes z ↦ walked_further w (e.halts z) n
-  | no z ↦ fork_this c s y steps count o (e.forks z)
-]
+pub ended_further : {c : Code} {s y : Thread} {steps : List Step} {count : ℕ} (f : Option Fork) → Ended c s steps count y f → Walked c s steps count y → (Halts c s → ⊥) → s.position < y.position
+ended_further None e w n = walked_further w e n
+ended_further {c} {s} {y} {steps} {count} (Some f) e w n = fork_this c s y steps count f.other e
+
+-- after a branch to be looked at both ways
+pub ended_forked : {c : Code} {s y : Thread} {steps : List Step} {count : ℕ} {o : Option Fork} {f : Fork} → o ≡ Some f → Ended c s steps count y o → Forked c s steps count y f.other
+ended_forked {c} {s} {y} {steps} {count} e ended = subst (Ended c s steps count y) e ended

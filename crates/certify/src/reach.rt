@@ -1,5 +1,5 @@
 // What the runs of a thread alone come to: one search of them, times ascending, for all that asks; and what a failure rests on.
-ghost use Rattle.std.specs.Prelude.{◌≡◌, true, false, ℕ, ◌≤◌, ◌<◌};
+ghost use Rattle.std.specs.Prelude.{◌≡◌, ℕ, ◌≤◌, ◌<◌, IfSome};
 ghost use Rattle.certify_runs.specs.Inner.{Ready, Trying};
 ghost use Rattle.certify_cares.specs.Cares.{Covers};
 ghost use Rattle.certify_straight.specs.Straight.{Halts};
@@ -20,7 +20,7 @@ use certify_sought::goal::{emptied, fill, kept};
 use certify_sought::{Met, Sought};
 use certify_straight::{at_position, before_straight, halts, straight};
 use certify_trail::{passed, preceded};
-use certify_tried::blind::{Blind, told, unread, worth_a_look, worth_asking};
+use certify_tried::blind::{told, unread, worth_a_look, worth_asking};
 use certify_tried::{Reached, Tried, appends, hopeless, noted, untried};
 use certify_window::idle::{idle, resumed};
 use certify_window::{earliest, following};
@@ -50,14 +50,13 @@ pub fn search_runs(c: Code, i: u8, m: Memory, s: Thread, q: Sought) -> Reached
     if kept(s, q) {
         return Reached {
             met: emptied(q),
-            cares: Cares { of: [0; 8] },
+            cares: Cares::NONE,
         };
     }
     if c.count <= s.position {
-        let met = q.met;
         return Reached {
-            met: met,
-            cares: Cares { of: [0; 8] },
+            met: q.met,
+            cares: Cares::NONE,
         };
     }
     if halts(c, s.position) {
@@ -108,44 +107,36 @@ fn both_ways(c: Code, i: u8, m: Memory, s: Thread, q: Sought) -> Reached
     let rests = r.cares;
     if met.ended(q.from) {
         return Reached {
-            met: met,
+            met,
             cares: passed(rests, w.count),
         };
     }
-    if w.other != 0 {
-        if rests.of_register(w.held) == 0 {
-            let o = search_runs(c, i, m, at_position(w.thread, w.other), q.after(met));
-            let others = o.cares;
-            if met.is(o.met) {
-                return Reached {
-                    met: met,
-                    cares: before_straight(w, w.count - 1, rests.and(others)),
-                };
-            }
+    if let Some(fork) = w.fork && rests.of_register(fork.held) == 0 {
+        let o = search_runs(c, i, m, at_position(w.thread, fork.other), q.after(met));
+        if met == o.met {
+            return Reached {
+                met,
+                cares: before_straight(w, w.count - 1, rests.and(o.cares)),
+            };
         }
     }
     Reached {
-        met: met,
+        met,
         cares: before_straight(w, w.count, rests),
     }
 }
 
-// Whether it is known beforehand that nothing comes of the next instruction, since what is wanted is lost. It is worked out before any run is
-// searched, so that nothing of it stays on the stack.
-fn foreseen(c: Code, m: Memory, s: Thread, q: Sought) -> Blind
+// What the search answers where it is known beforehand that nothing comes of the next instruction, since what is wanted is lost. It is worked out
+// before any run is searched, so that nothing of it stays on the stack.
+fn foreseen(c: Code, m: Memory, s: Thread, q: Sought) -> Option<Reached>
     requires { (c.count ≤ 16) × (m.count ≤ 16) }
-    ensures { (result.fails ≡ true → (i : ℕ) → Found q.from q.met (λ y k. Meets c i m y q.hole k) s result.found) × (result.found.met ≡ q.met) }
+    ensures { IfSome result (λ r. ((i : ℕ) → Found q.from q.met (λ y k. Meets c i m y q.hole k) s r) × (r.met ≡ q.met)) }
 {
-    let met = q.met;
-    let gone = fruitless(c, m, s, q.hole, q.from, q.met.second);
-    let rests = gone.cares;
-    Blind {
-        fails: gone.certain,
-        found: Reached {
-            met: met,
-            cares: rests,
-        },
-    }
+    let rests = fruitless(c, m, s, q.hole, q.from, q.met.second)?;
+    Some(Reached {
+        met: q.met,
+        cares: rests,
+    })
 }
 
 // The search of runs for a thread at its next load or store, x: times ascending, then the store's own message. What the tries themselves rest on is
@@ -158,17 +149,15 @@ fn search_at(c: Code, i: u8, m: Memory, s: Thread, x: Instr, q: Sought) -> Reach
     ensures shows { Shows c i m s q result }
 {
     if worth_a_look(x, c, m, s) {
-        let f = foreseen(c, m, s, q);
-        if f.fails {
-            return f.found;
+        if let Some(found) = foreseen(c, m, s, q) {
+            return found;
         }
         if worth_asking(x, c, s) {
             let load = x;
-            if let Instr::Load(k, r, a, b) = load {
-                let o = told(r, search_runs(c, i, m, unread(k, r, a, b, m, s), q), q.met);
-                if o.fails {
-                    return o.found;
-                }
+            if let Instr::Load(k, r, a, b) = load
+                && let Some(found) = told(r, search_runs(c, i, m, unread(k, r, a, b, m, s), q), q.met)
+            {
+                return found;
             }
         }
     }
@@ -205,7 +194,7 @@ fn filled(c: Code, i: u8, m: Memory, s: Thread, x: Instr, q: Sought) -> Reached
     let met = q.met;
     let none = Reached {
         met: met,
-        cares: Cares { of: [0; 8] },
+        cares: Cares::NONE,
     };
     if !has(s.promises, q.hole) {
         return none;
@@ -219,7 +208,7 @@ fn filled(c: Code, i: u8, m: Memory, s: Thread, x: Instr, q: Sought) -> Reached
             }
             let here = Reached {
                 met: met.with(number),
-                cares: Cares { of: [0; 8] },
+                cares: Cares::NONE,
             };
             if u16::count_ones(s.promises) == 1 {
                 if below_time(how, q.hole, w.location, view_of(s, a), view_of(s, d), s) {
@@ -257,7 +246,7 @@ fn keeps(c: Code, i: u8, m: Memory, s: Thread, x: Instr, t: u8) -> Reached
                 least: 1,
                 second: 1,
             },
-            cares: Cares { of: [0; 8] },
+            cares: Cares::NONE,
         },
     }
 }
@@ -279,7 +268,7 @@ fn try_at(c: Code, i: u8, m: Memory, s: Thread, x: Instr, t: u8, p: Tried, q: So
     if kept(y, q) {
         let all = emptied(less);
         if all.ended(q.from) {
-            return p.having(all, preceded(Cares { of: [0; 8] }, 0, t));
+            return p.having(all, preceded(Cares::NONE, 0, t));
         }
         return p.having(all, p.cares);
     }

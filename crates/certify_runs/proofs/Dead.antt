@@ -79,13 +79,13 @@ dead_late {i} {t} {m} {w} {s} sixteen (stored {a = a} p pre low) (owned e) =
     let l = store_location (add_promise (append m w) s) a in
     let stands = p.in_memory in
     let before : t ≤ u = omega arith in
-    let in_range_lem : l < length s.coherence = subst (λ (n : ℕ). l < n) (sym sixteen) (mod-lt _ (lit< tt)) in
+    let inside : l < length s.coherence = subst (λ (n : ℕ). l < n) (sym sixteen) (mod-lt _ (lit< tt)) in
     let stays = message_stays m w t (has_positive s.promises t p.out) stands in
     let at : l ≡ (message_at (append m w) t).location = ap address (value_promised (append m w) s a) ∙ sym p.at_location ∙ ap (λ (v : Message). v.location) (sym stays) in
     record {
       in_memory = before;
       out = subst (λ (q : ℕ). T (has q t)) (sym (with_without s.promises u)) p.out;
-      high = subst (λ (n : ℕ). t ≤ view_at (raise_at s.coherence l u) n) at (le_trans before (raise_reaches s.coherence l u in_range_lem));
+      high = subst (λ (n : ℕ). t ≤ view_at (raise_at s.coherence l u) n) at (le_trans before (raise_reaches s.coherence l u inside));
     }
 dead_late sixteen (computed _) o = elim o [ ]
 dead_late sixteen (loaded _ _) o = elim o [ ]

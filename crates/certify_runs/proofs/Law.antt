@@ -83,11 +83,11 @@ module _ (t l v : ℕ) (g : ℕ → List ℕ → List Write → List Write) (m :
   reaches k a b u at same =
       let here = load_location s a b in
       let post = load_post_view k s a b u in
-      let in_range_lem : here < length s.coherence = subst (λ (n : ℕ). here < n) (sym d.locations) (mod-lt (value_of s a + value_of s b) (lit< tt)) in
+      let inside : here < length s.coherence = subst (λ (n : ℕ). here < n) (sym d.locations) (mod-lt (value_of s a + value_of s b) (lit< tt)) in
       let self = read_view_lem s here u (subst (λ (n : ℕ). (get_or s.forward here fresh_forward).time ≢ n) (sym same) (d.no_forward here)) in
       let up : t ≤ post = subst (λ (n : ℕ). n ≤ post) (self ∙ same) (le-max_right _ (read_view s here u)) in
       subst (λ (n : ℕ). t ≤ view_at (raise_at s.coherence here post) n) (sym at ∙ ap (λ (n : ℕ). (message_at m n).location) same)
-      (le_trans up (raise_reaches s.coherence here post in_range_lem))
+      (le_trans up (raise_reaches s.coherence here post inside))
 
   -- the run without views reads what the load reads
   load_reads : (f : ℕ → List Write) (here u : ℕ) → T (readable m here u) → ((message_at m u).location ≡ here → u ≢ t) → T (is_in (f (read_value m u)) l v) → T (is_in (read_each ws here f) l v)

@@ -1,15 +1,15 @@
 -- The two least numbers met: what is still sought after some were met, and an empty promise set as what is sought.
 -- Assumes nothing.
-use mathlib.Core.Path.{◌≡◌, refl, sym, ap₂, subst, ◌∙◌}
+use mathlib.Core.Path.{◌≡◌, refl, sym, subst, ◌∙◌}
 use mathlib.Core.Logic.{◌⊎◌, inl, inr, ⊎_elim}
-use mathlib.Core.Bool.{Bool, true, false, not, ◌&&◌}
+use mathlib.Core.Bool.{Bool, true, false, not}
 use Prim.Native.Nat.{ℕ, suc, ◌+◌, ◌-◌, ◌≤◌, ◌<◌}
 use native.Mathlib.Nat.{le_refl}
 use native.Mathlib.Decide.{ℕ_discrete, dec_lt}
 use native.Mathlib.Omega.{arith}
 use lib.Dec.{T, eqb, leb, eqb→eq, leb→le, le→leb}
 use borrow.Author.Tests.{lt-ltb, le-ltb, le-leb, lt-leb, not-false}
-use Rattle.program.proofs.Tests.{eq→eqb, and_left, and_right}
+use Rattle.program.proofs.Tests.{eq→eqb}
 use Rattle.certify_sought.specs.Numbers.{Met, Sought, meeting, Unmet, Seeks, Better, same, more, Twice, LeastOrTwo, Emptied}
 
 pub not_both : (b : Bool) → T b → not b ≡ true → ⊥
@@ -67,8 +67,8 @@ module _ (from : ℕ) (p : Met) where
       let l : p.second - 1 ≤ from → ⊥ = λ h. subst T f (le→leb (p.second - 1) from h) in
       (suc from, (omega arith, omega arith, λ q. omega arith))
 
-pub sought_or-not : (q : Sought) (n : ℕ) → q.from ≤ n → n < q.met.second → (not (eqb n q.met.least) ≡ true → Seeks q n) × (not (eqb n q.met.least) ≡ false → Seeks q n → ⊥)
-sought_or-not q n low high = (
+pub sought_but_least : (q : Sought) (n : ℕ) → q.from ≤ n → n < q.met.second → (not (eqb n q.met.least) ≡ true → Seeks q n) × (not (eqb n q.met.least) ≡ false → Seeks q n → ⊥)
+sought_but_least q n low high = (
   λ t. (low, high, λ e. not_both (eqb n q.met.least) (eq→eqb e) t),
   λ t s. s.2 (eqb→eq n q.met.least (subst T (sym (not-false (eqb n q.met.least) t)) tt)),
 )
@@ -224,9 +224,3 @@ emptied_now q r e u = elim (dec_lt 0 q.from) [
     ]
   ]
 ]
-
--- ---- two pairs of numbers met
-pub met_same : (p q : Met) → (eqb p.least q.least && eqb p.second q.second) ≡ true → p ≡ q
-met_same p q e =
-    let both = subst T (sym e) tt in
-    ap₂ (λ (l n : ℕ). record { least = l; second = n }) (eqb→eq _ _ (and_left (eqb p.least q.least) (eqb p.second q.second) both)) (eqb→eq _ _ (and_right (eqb p.least q.least) (eqb p.second q.second) both))

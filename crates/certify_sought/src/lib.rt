@@ -10,7 +10,7 @@ ghost use Rattle.certify_sought.specs.Numbers.{Unmet, Seeks, meeting, certifying
 
 // The two least numbers that runs have met; where there are fewer, bounds below which numbers are sought. Where the two are the same, only the
 // least number is sought, and they stay the same.
-#[derive(Clone, Copy)]
+#[derive(Clone, Copy, PartialEq, Eq)]
 pub struct Met {
     pub least: u16,
     pub second: u16,
@@ -37,13 +37,6 @@ impl Met {
             least: n,
             second: n,
         }
-    }
-
-    // They are those.
-    pub fn is(self, those: Met) -> bool
-        ensures { result ≡ true → self ≡ those }
-    {
-        (self.least == those.least) & (self.second == those.second)
     }
 
     // No number from `from` on is sought any more.
@@ -88,11 +81,7 @@ impl Sought {
     pub fn after(self, met: Met) -> Sought
         ensures { result ≡ record { hole = self.hole; from = self.from; met = met } }
     {
-        Sought {
-            hole: self.hole,
-            from: self.from,
-            met: met,
-        }
+        Sought { met, ..self }
     }
 
     // The number n is sought.

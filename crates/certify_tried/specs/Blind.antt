@@ -7,7 +7,6 @@ use Rattle.certify_cares.specs.Cares.{care_of, Agreeing, AgreeingBut}
 use Rattle.certify_under.specs.Threads.{cohering}
 use Rattle.certify_sought.specs.declared.Met.{Met}
 use Rattle.certify_tried.specs.Tried.{Reached}
-pub use Rattle.certify_tried.specs.declared.blind.Blind.{Blind}
 
 -- the thread after it; at which location does not count, since coherence is put back
 abbrev pub unread : LoadMode → ℕ → Operand → Operand → Memory → Thread → Thread

@@ -1,12 +1,11 @@
 // Loads and stores of which it is known beforehand that nothing comes: what is wanted is lost; or a blind load tells. Blind loads read 0 with no
 // view of their own, and leave coherence as it is. No load leaves less, so that a failure after a blind load tells of every load, wherever it
 // reads, if what is read does not count.
-ghost use Rattle.std.specs.Prelude.{◌≡◌, true, false, ◌+◌, ◌≤◌, ◌<◌};
+ghost use Rattle.std.specs.Prelude.{◌≡◌, ◌+◌, ◌≤◌, ◌<◌, IfSome};
 ghost use Rattle.certify_tried.specs.Blind.{unread, Told};
 
 use crate::Reached;
 use certify_ahead::steering::steers;
-use certify_cares::Cares;
 use certify_lost::telling::telling;
 use certify_sought::Met;
 use certify_window::idle::lowered;
@@ -15,46 +14,22 @@ use program::{Code, Instr, LoadMode, Operand};
 use rules::operands::view_of_both;
 use rules_loads::{load_done, load_pre};
 
-// Whether an instruction is known to fail; and then what its search answers.
-#[derive(Clone, Copy)]
-pub struct Blind {
-    pub fails: bool,
-    pub found: Reached,
-}
-
-// Nothing is known.
-pub fn unknown(met: Met) -> Blind
-    ensures { result.fails ≡ false }
-{
-    Blind {
-        fails: false,
-        found: Reached {
-            met: met,
-            cares: Cares { of: [0; 8] },
-        },
-    }
-}
-
 // What a search after a blind load into r tells: if no number is met besides those known, and what is read does not count, every load there
-// fails.
-pub fn told(r: u8, then: Reached, met: Met) -> Blind
-    ensures { result.fails ≡ true → Told r then met result.found }
+// fails. None where it tells nothing.
+pub fn told(r: u8, then: Reached, met: Met) -> Option<Reached>
+    ensures { IfSome result (λ found. Told r then met found) }
 {
-    let known = then.met;
     let rests = then.cares;
-    if !known.is(met) {
-        return unknown(met);
+    if then.met != met {
+        return None;
     }
     if rests.of_register(r) != 0 {
-        return unknown(met);
+        return None;
     }
-    Blind {
-        fails: true,
-        found: Reached {
-            met: met,
-            cares: rests.forgetting(r),
-        },
-    }
+    Some(Reached {
+        met,
+        cares: rests.forgetting(r),
+    })
 }
 
 // The thread after a blind load into r. At which location does not count, since coherence is put back.

@@ -41,11 +41,9 @@ impl Tried {
     pub fn so_far(self) -> Reached
         ensures { result ≡ record { met = self.met; cares = self.cares } }
     {
-        let met = self.met;
-        let cares = self.cares;
         Reached {
-            met: met,
-            cares: cares,
+            met: self.met,
+            cares: self.cares,
         }
     }
 
@@ -53,14 +51,7 @@ impl Tried {
     pub fn having(self, met: Met, cares: Cares) -> Tried
         ensures { result ≡ record { met = met; tries = self.tries; cares = cares; counted = self.counted; apart = self.apart } }
     {
-        let counted = self.counted;
-        Tried {
-            met: met,
-            tries: self.tries,
-            cares: cares,
-            counted: counted,
-            apart: self.apart,
-        }
+        Tried { met, cares, ..self }
     }
 }
 
@@ -81,8 +72,7 @@ pub fn hopeless(c: Code, m: Memory, s: Thread, x: Instr, t: u8, p: Tried) -> boo
     if p.tries == 0 {
         return false;
     }
-    let counted = p.counted;
-    if in_vain(m, s, x, counted, t) {
+    if in_vain(m, s, x, p.counted, t) {
         return true;
     }
     if p.tries == 1 {
@@ -95,12 +85,10 @@ pub fn hopeless(c: Code, m: Memory, s: Thread, x: Instr, t: u8, p: Tried) -> boo
 pub fn untried(known: Reached) -> Tried
     ensures { result ≡ record { met = known.met; tries = 0; cares = known.cares; counted = replicate 17 3; apart = true } }
 {
-    let met = known.met;
-    let cares = known.cares;
     Tried {
-        met: met,
+        met: known.met,
         tries: 0,
-        cares: cares,
+        cares: known.cares,
         counted: [3; 17],
         apart: true,
     }
@@ -111,26 +99,24 @@ pub fn noted(x: Instr, t: u8, p: Tried, sub: Reached, apart: bool) -> Tried
     requires { t ≤ 16 }
     ensures { Noted x t p sub apart result }
 {
-    let before = p.cares;
     let now = sub.cares;
-    let met = sub.met;
     let mut counted = p.counted;
     match x {
         Instr::Load(_, r, _, _) => {
             counted[t as usize] = now.of_register(r);
             Tried {
-                met: met,
+                met: sub.met,
                 tries: smaller(p.tries, 1) + 1,
-                cares: now.forgetting(r).and(before),
-                counted: counted,
+                cares: now.forgetting(r).and(p.cares),
+                counted,
                 apart: p.apart & apart,
             }
         }
         Instr::Store(_, _, _) => Tried {
-            met: met,
+            met: sub.met,
             tries: smaller(p.tries, 1) + 1,
-            cares: now.and(before),
-            counted: counted,
+            cares: now.and(p.cares),
+            counted,
             apart: p.apart,
         },
         Instr::Compute(_, _, _, _) => p,

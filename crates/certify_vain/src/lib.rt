@@ -38,28 +38,19 @@ fn doubled(m: Memory, s: Thread, l: u8, counted: [u32; 17], t: u8) -> bool
     requires { (l < 16) × (t ≤ 16) }
     ensures { result ≡ true → Doubled m s l counted t }
 {
-    let messages = m.messages;
     let pair = s.forward_at(l);
     let value = read_value(m, t);
     let view = view_by(pair, t);
-    if t == 0 {
-        return false;
-    }
-    if no_better(counted[0], view_by(pair, 0), 0, view, value) {
-        return true;
-    }
-    let mut u = 1u8;
-    while u < t {
+    for u in 0..t {
         if no_better(
             counted[u as usize],
             view_by(pair, u),
-            messages[(u - 1) as usize].value,
+            read_value(m, u),
             view,
             value,
         ) {
             return true;
         }
-        u += 1;
     }
     false
 }

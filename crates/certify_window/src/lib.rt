@@ -18,13 +18,10 @@ fn newest(m: Memory, l: u8, v: u8) -> u8
     requires { m.count ≤ 16 }
     ensures { Stands m l v result }
 {
-    let messages = m.messages;
-    let mut t = smaller(v, m.count);
-    while 0 < t {
-        if messages[(t - 1) as usize].location == l {
-            return t;
+    for t in (0..smaller(v, m.count)).rev() {
+        if m.messages[t as usize].location == l {
+            return t + 1;
         }
-        t -= 1;
     }
     0
 }
@@ -72,14 +69,10 @@ pub fn next_message(m: Memory, l: u8, t: u8) -> u8
     requires { (m.count ≤ 16) × (t ≤ 16) }
     ensures { NextMessage m l t result }
 {
-    let messages = m.messages;
-    let count = m.count;
-    let mut u = t;
-    while u < count {
-        if messages[u as usize].location == l {
+    for u in t..m.count {
+        if m.messages[u as usize].location == l {
             return u + 1;
         }
-        u += 1;
     }
     17
 }

@@ -7,7 +7,4 @@ use Rattle.machine.specs.State.{no_message}
 use Rattle.certify_window.proofs.next_message.Given as goal
 
 abbrev pub invariant-loop-u : goal.invariant-loop-u
-invariant-loop-u l = (l.t ≤ l.u) × ((v : ℕ) → l.t < v → v ≤ l.u → (get_or l.messages (v - 1) no_message).location ≡ l.l → ⊥)
-
-abbrev pub decreases-loop-u : goal.decreases-loop-u
-decreases-loop-u l = l.count - l.u
+invariant-loop-u l = (l.t ≤ l.u) × ((v : ℕ) → l.t < v → v ≤ l.u → (get_or l.m.messages (v - 1) no_message).location ≡ l.l → ⊥)

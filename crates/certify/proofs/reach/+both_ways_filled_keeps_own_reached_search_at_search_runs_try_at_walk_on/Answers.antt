@@ -1,5 +1,6 @@
 -- The cycle of `certify::reach::search_runs` meets its contracts: each instruction moves the position on.
 -- Assumes nothing.
+use Rattle.std.proofs.Common.{rules, tests}
 use mathlib.Core.Bool.{not}
 use mathlib.Core.Path.{◌≡◌, refl, sym, ap, subst, ◌∙◌}
 use mathlib.Core.Logic.{inl}
@@ -25,7 +26,7 @@ use Rattle.certify.proofs.Missing.{knows_none, missed_none, missed_on, went_refu
 use Rattle.certify.proofs.Owning.{owns_none, owns_untried, owns_stuck, owns_better, owns_on}
 use Rattle.certify.proofs.Blind.{blind_found}
 use Rattle.certify.proofs.Showing.{unmet_zero, still_unmet, filled_none, shows_none, shows_stop, shows_walked, shows_missed, shows_emptied, shows_resumed, shows_stored, shows_tried, shows_owned}
-use Rattle.certify.proofs.Forking.{fork_other, both_found, ended_further}
+use Rattle.certify.proofs.Forking.{fork_other, both_found, ended_further, ended_forked}
 use Rattle.certify.proofs.Reaching.{reach_end, fills_meets, tried_meets, owns_meets, reach_all, straight_kept, straight_better, straight_found, further_by, further_own}
 use Rattle.certify.proofs.reach.+both_ways_filled_keeps_own_reached_search_at_search_runs_try_at_walk_on.Goals as goal
 use Rattle.certify.proofs.reach.+both_ways_filled_keeps_own_reached_search_at_search_runs_try_at_walk_on.Goals.{search_at-then-not-hopeless+else-ended, search_at-else-not-hopeless}
@@ -37,7 +38,7 @@ both_ways-straight-w-requires t c =
 pub both_ways-search_runs-r-requires : goal.both_ways-search_runs-r-requires
 both_ways-search_runs-r-requires t c =
     let w = c.straight-w.ensures in
-    let l = ended_further w.0 w.1.0 c.requires.0.1.1 in
+    let l = ended_further _ w.0 w.1.0 c.requires.0.1.1 in
     let low = c.requires.0.1.0 in
     let short = c.requires.0.0.code_ok.short in
     (omega (arith, c.decreases), leads_ready (walked_leads w.1.0) c.requires.0.0)
@@ -49,7 +50,7 @@ both_ways-returns-then-ended t c =
 pub both_ways-search_runs-o-requires : goal.both_ways-search_runs-o-requires
 both_ways-search_runs-o-requires t c =
     let w = c.straight-w.ensures in
-    let l = fork_other _ _ _ _ _ _ (w.0.forks c.if-w-ne0.true) in
+    let l = fork_other _ _ _ _ _ _ (ended_forked c.in-Some.is w.0) in
     let low = c.requires.0.1.0 in
     let short = c.requires.0.0.code_ok.short in
     let at = ap (λ (v : Thread). v.position) c.at_position.ensures in
@@ -57,12 +58,12 @@ both_ways-search_runs-o-requires t c =
 
 pub both_ways-overflow_sub-w : goal.both_ways-overflow_sub-w
 both_ways-overflow_sub-w t c =
-    let h = (c.straight-w.ensures.0.forks c.if-w-ne0.true).some_step in omega arith
+    let h = (ended_forked c.in-Some.is c.straight-w.ensures.0).some_step in omega arith
 
-pub both_ways-returns-then-is : goal.both_ways-returns-then-is
-both_ways-returns-then-is t c =
+pub both_ways-returns-then-eq : goal.both_ways-returns-then-eq
+both_ways-returns-then-eq t c =
     let w = c.straight-w.ensures in
-    let f = w.0.forks c.if-w-ne0.true in record { found = both_found _ _ _ _ _ _ f _ _ (walked_leads w.1.0) c.args.q _ c.search_runs-r.ensures.found _ c.at_position.ensures _ (rw c.after.ensures at c.search_runs-o.ensures.found) (c.is.ensures c.if-is.true) _ _ c.and.ensures (λ s'. c.before_straight.ensures _ _ _ s' f.walked); shows = shows_none c.args.q _ (λ e. still_unmet c.args.q e _ _ refl c.search_runs-r.ensures.found.better (c.ended.ensures.1 c.if-ended.false)) }
+    let f = ended_forked c.in-Some.is w.0 in record { found = both_found _ _ _ _ _ _ f _ _ (walked_leads w.1.0) c.args.q _ c.search_runs-r.ensures.found _ c.at_position.ensures _ (rw c.after.ensures at c.search_runs-o.ensures.found) (search (rules, tests)) _ _ c.and.ensures (λ s'. c.before_straight.ensures _ _ _ s' f.walked); shows = shows_none c.args.q _ (λ e. still_unmet c.args.q e _ _ refl c.search_runs-r.ensures.found.better (c.ended.ensures.1 c.if-ended.false)) }
 
 pub both_ways-before_straight-requires-2 : goal.both_ways-before_straight-requires-2
 both_ways-before_straight-requires-2 t c =
@@ -206,13 +207,13 @@ pub search_at-worth_a_look-requires : goal.search_at-worth_a_look-requires
 search_at-worth_a_look-requires t c =
     let w = c.requires.0 in let h = w.ready.code_ok.short in let l = (there _ _ _ w.is_next).0 in (h, omega arith)
 
-pub search_at-foreseen-f-requires : goal.search_at-foreseen-f-requires
-search_at-foreseen-f-requires t c =
+pub search_at-foreseen-requires : goal.search_at-foreseen-requires
+search_at-foreseen-requires t c =
     let w = c.requires.0 in (w.ready.code_ok.short, w.ready.room)
 
-pub search_at-returns-then-f : goal.search_at-returns-then-f
-search_at-returns-then-f t c =
-    record { found = c.foreseen-f.ensures.0 c.if-f.true _; shows = shows_none c.args.q _ (λ e. c.foreseen-f.ensures.1) }
+pub search_at-returns-in-Some : goal.search_at-returns-in-Some
+search_at-returns-in-Some t c =
+    record { found = c.in-Some.ensures.0 _; shows = shows_none c.args.q _ (λ e. c.in-Some.ensures.1) }
 
 pub search_at-worth_asking-requires : goal.search_at-worth_asking-requires
 search_at-worth_asking-requires t c =
@@ -230,9 +231,9 @@ search_at-search_runs-requires t c =
     let h = w.ready.code_ok.short in
     (omega (arith, c.decreases), ready_as w.ready (ap (λ (v : Thread). v.promises) c.unread.ensures))
 
-pub search_at-returns-then-o : goal.search_at-returns-then-o
-search_at-returns-then-o t c =
-    record { found = blind_found _ _ _ _ _ c.requires.0.is_next c.args.q c.requires.1 _ _ _ _ c.in-Load.is _ c.unread.ensures _ c.search_runs.ensures.found _ (c.told-o.ensures c.if-o.true); shows = shows_none c.args.q _ (λ e. (c.told-o.ensures c.if-o.true).as_before) }
+pub search_at-returns-then-worth_asking : goal.search_at-returns-then-worth_asking
+search_at-returns-then-worth_asking t c =
+    record { found = blind_found _ _ _ _ _ c.requires.0.is_next c.args.q c.requires.1 _ _ _ _ c.in-Load.is _ c.unread.ensures _ c.search_runs.ensures.found _ c.in-Some-told.ensures; shows = shows_none c.args.q _ (λ e. c.in-Some-told.ensures.as_before) }
 
 pub search_at-earliest-t-requires : goal.search_at-earliest-t-requires
 search_at-earliest-t-requires t c =
@@ -403,7 +404,7 @@ walk_on-straight-w-requires t c =
 pub walk_on-search_runs-r-requires : goal.walk_on-search_runs-r-requires
 walk_on-search_runs-r-requires t c =
     let w = c.straight-w.ensures in
-    let l = ended_further w.0 w.1.0 c.requires.0.1.1 in
+    let l = ended_further _ w.0 w.1.0 c.requires.0.1.1 in
     let low = c.requires.0.1.0 in
     let short = c.requires.0.0.code_ok.short in
     (omega (arith, c.decreases), leads_ready (walked_leads w.1.0) c.requires.0.0)

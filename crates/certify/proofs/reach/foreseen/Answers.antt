@@ -5,4 +5,4 @@ use Rattle.certify.proofs.Losing.{fruitless_found}
 use Rattle.certify.proofs.reach.foreseen.Goals as goal
 
 pub returns : goal.returns
-returns c = (λ e i. fruitless_found _ i _ _ c.args.q _ (c.fruitless-gone.ensures e), refl)
+returns c = (λ i. fruitless_found _ i _ _ c.args.q _ c.in_ok-rests.ensures, refl)

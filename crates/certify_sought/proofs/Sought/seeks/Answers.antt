@@ -3,7 +3,7 @@
 use mathlib.Core.Path.{sym, subst}
 use native.Mathlib.Omega.{arith}
 use lib.Dec.{T}
-use Rattle.certify_sought.proofs.Numbers.{sought_or-not}
+use Rattle.certify_sought.proofs.Numbers.{sought_but_least}
 use Rattle.certify_sought.proofs.Sought.seeks.Goals as goal
 
 pub returns-then-n-self : goal.returns-then-n-self
@@ -13,4 +13,4 @@ pub returns-then-self-n : goal.returns-then-self-n
 returns-then-self-n c = (λ e. absurd (subst T (sym e) tt), λ e s. let a = s.1 in let h = c.if-self-n.true in omega arith)
 
 pub returns : goal.returns
-returns c = sought_or-not c.args.self _ c.if-n-self.false c.if-self-n.false
+returns c = sought_but_least c.args.self _ c.if-n-self.false c.if-self-n.false
