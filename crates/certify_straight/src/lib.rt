@@ -208,12 +208,9 @@ pub fn before_straight(w: Walk, count: usize, k: Cares) -> Cares
     ensures { (c : Code) (s y s' : Thread) → Walked c s w.steps count y → Rests result.of s s'
         → (y' : Thread) × (Leads c s' y' × Rests k.of y y') }
 {
-    let steps = w.steps;
-    let mut left = count;
     let mut of = k.of;
-    while 0 < left {
-        left -= 1;
-        let e = steps[left];
+    for j in (0..count).rev() {
+        let e = w.steps[j];
         if e.instruction.op == 0 {
             before_compute(&mut of, e);
         } else if e.instruction.op == 3 {

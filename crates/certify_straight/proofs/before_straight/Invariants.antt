@@ -6,8 +6,5 @@ use Rattle.certify_straight.specs.Straight.{Walked}
 use Rattle.certify_straight.proofs.Walking.{Back}
 use Rattle.certify_straight.proofs.before_straight.Given as goal
 
-abbrev pub invariant-loop-left : goal.invariant-loop-left
-invariant-loop-left l = (length l.of ≡ 8) × ((l.left ≤ 16) × ((c : Code) (s z : Thread) → Walked c s l.steps l.initial.left z → Back c s z l.steps l.left l.initial.of l.of))
-
-abbrev pub decreases-loop-left : goal.decreases-loop-left
-decreases-loop-left l = l.left
+abbrev pub invariant-loop-j : goal.invariant-loop-j
+invariant-loop-j l = (length l.of ≡ 8) × ((l.j ≤ 16) × ((c : Code) (s z : Thread) → Walked c s l.w.steps l.initial.j z → Back c s z l.w.steps l.j l.initial.of l.of))
