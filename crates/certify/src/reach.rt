@@ -126,19 +126,6 @@ fn both_ways(c: Code, i: u8, m: Memory, s: Thread, q: Sought) -> Reached
     }
 }
 
-// What the search answers where it is known beforehand that nothing comes of the next instruction, since what is wanted is lost. It is worked out
-// before any run is searched, so that nothing of it stays on the stack.
-fn foreseen(c: Code, m: Memory, s: Thread, q: Sought) -> Option<Reached>
-    requires { (c.count ≤ 16) × (m.count ≤ 16) }
-    ensures { IfSome result (λ r. ((i : ℕ) → Found q.from q.met (λ y k. Meets c i m y q.hole k) s r) × (r.met ≡ q.met)) }
-{
-    let rests = fruitless(c, m, s, q.hole, q.from, q.met.second)?;
-    Some(Reached {
-        met: q.met,
-        cares: rests,
-    })
-}
-
 // The search of runs for a thread at its next load or store, x: times ascending, then the store's own message. What the tries themselves rest on is
 // worked out last: most searches that succeed never ask for it. With many messages about, it is asked first whether anything can come of it: what
 // is wanted may be lost, or a load fail whatever it reads.
@@ -149,8 +136,11 @@ fn search_at(c: Code, i: u8, m: Memory, s: Thread, x: Instr, q: Sought) -> Reach
     ensures shows { Shows c i m s q result }
 {
     if worth_a_look(x, c, m, s) {
-        if let Some(found) = foreseen(c, m, s, q) {
-            return found;
+        if let Some(rests) = fruitless(c, m, s, q.hole, q.from, q.met.second) {
+            return Reached {
+                met: q.met,
+                cares: rests,
+            };
         }
         if worth_asking(x, c, s) {
             let load = x;

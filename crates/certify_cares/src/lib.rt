@@ -1,6 +1,7 @@
 // What a failure rests on: for each register, how much of what it holds had to be so. A care has a code, which is the care modulo 65536: 0 asks
 // nothing; 2 for the value; 256 + e no more than that it is not e; 512 + e that it is e or more; 768 + e that it is less than e. And it has a
 // set of locations, which is the care / 65536: as an address the value is of the location that it was of, or of none in the set.
+// It is a word and no enum: joins need no branch, and a run is written into the same words (`certify_trail`; fixed memory, the stack figures).
 #![tactic(auto)]
 
 pub mod barred;

@@ -97,7 +97,8 @@ fn promise_lost(c: Code, m: Memory, s: Thread, hole: u8) -> Option<Cares>
 }
 
 // What it rests on that surely nothing comes of the thread, if so: no store ahead fills the hole by a number from `from` on and below `top`, or a
-// promise is lost.
+// promise is lost. It is a call of its own, so that nothing of it stays on the stack while runs are searched.
+#[inline(never)]
 pub fn fruitless(c: Code, m: Memory, s: Thread, hole: u8, from: u16, top: u16) -> Option<Cares>
     requires { (c.count ≤ 16) × (m.count ≤ 16) }
     ensures { IfSome result (λ r. Fruitless c m s hole from top r.of) }

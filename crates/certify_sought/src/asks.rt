@@ -60,15 +60,16 @@ fn load_asks(m: Memory, s: Thread, a: Operand, b: Operand, apart: bool) -> Cares
     requires { m.count ≤ 16 }
     ensures { (s' : Thread) → Agreeing result.of s s' → LoadsSame apart m s s' a b }
 {
+    let nothing = Cares::NONE;
     let x = value_of(s, a);
     let y = value_of(s, b);
     let set = vacancy(m, address_of_sum(x, y), apart);
     if view_of(s, a) <= view_of(s, b) {
-        return Cares::NONE
+        return nothing
             .noting(a, barring(65535))
             .noting(b, barring(turned(set, x)));
     }
-    Cares::NONE
+    nothing
         .noting(a, barring(turned(set, y)))
         .noting(b, barring(65535))
 }
@@ -79,9 +80,10 @@ fn store_asks(m: Memory, s: Thread, a: Operand, d: Operand, q: Sought, own: bool
     requires { m.count ≤ 16 }
     ensures { StoreAsks m s a d q result.of }
 {
+    let nothing = Cares::NONE;
     let l = address(value_of(s, a));
     let v = value_of(s, d);
-    let kept = Cares::NONE
+    let kept = nothing
         .noting(a, barring(place(own, m, s.promises, q)))
         .noting(d, other_values(m, s.promises, l, v));
     if !has(s.promises, q.hole) {
@@ -95,12 +97,13 @@ pub fn asks(x: Instr, m: Memory, s: Thread, q: Sought, own: bool, apart: bool) -
     requires { m.count ≤ 16 }
     ensures { Asks x m s q apart result.of }
 {
+    let nothing = Cares::NONE;
     match x {
         Instr::Load(_, _, a, b) => load_asks(m, s, a, b, apart),
         Instr::Store(_, a, d) => store_asks(m, s, a, d, q, own),
-        Instr::Compute(_, _, _, _) => Cares::NONE,
-        Instr::Branch(_, _, _) => Cares::NONE,
-        Instr::Fence(_) => Cares::NONE,
+        Instr::Compute(_, _, _, _) => nothing,
+        Instr::Branch(_, _, _) => nothing,
+        Instr::Fence(_) => nothing,
     }
 }
 

@@ -77,11 +77,15 @@ impl Sought {
         }
     }
 
-    // The same, after these numbers were met.
+    // The same, after these numbers were met. Each field is named, since `..self` takes more of the stack of a search of runs.
     pub fn after(self, met: Met) -> Sought
         ensures { result ≡ record { hole = self.hole; from = self.from; met = met } }
     {
-        Sought { met, ..self }
+        Sought {
+            hole: self.hole,
+            from: self.from,
+            met,
+        }
     }
 
     // The number n is sought.

@@ -51,7 +51,8 @@ pub fn preceded(k: Cares, kind: u8, time: u8) -> Cares
     Cares { of }
 }
 
-// So many instructions before them that are executed at time 0.
+// So many instructions before them that are executed at time 0. It is a call of its own for the stack of a search of runs.
+#[inline(never)]
 pub fn passed(k: Cares, count: usize) -> Cares
     ensures { (l : List RunStep) → Trail k.of l → length l + count ≤ 16 → Trail result.of (passing count l) }
 {

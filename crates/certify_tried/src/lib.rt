@@ -26,7 +26,7 @@ pub struct Reached {
 
 // After some tries of an instruction: the numbers met; how many tries were made, two for more; what they rest on; for each time at which a load
 // was tried how much of what it left in its register counted, 3 for the others; and whether they are apart: the tries of a load of a location
-// without a message tell of those of all such locations.
+// without a message tell of those of all such locations. 3 is a code of no care, so that the times take one word each (the stack figures).
 #[derive(Clone, Copy)]
 pub struct Tried {
     pub met: Met,
@@ -41,17 +41,26 @@ impl Tried {
     pub fn so_far(self) -> Reached
         ensures { result ≡ record { met = self.met; cares = self.cares } }
     {
+        let met = self.met;
+        let cares = self.cares;
         Reached {
-            met: self.met,
-            cares: self.cares,
+            met,
+            cares,
         }
     }
 
-    // The tries with these numbers met, and these cares.
+    // The tries with these numbers met, and these cares. Each field is named, since `..self` takes more of the stack of a search of runs.
     pub fn having(self, met: Met, cares: Cares) -> Tried
         ensures { result ≡ record { met = met; tries = self.tries; cares = cares; counted = self.counted; apart = self.apart } }
     {
-        Tried { met, cares, ..self }
+        let counted = self.counted;
+        Tried {
+            met,
+            tries: self.tries,
+            cares,
+            counted,
+            apart: self.apart,
+        }
     }
 }
 
@@ -72,7 +81,8 @@ pub fn hopeless(c: Code, m: Memory, s: Thread, x: Instr, t: u8, p: Tried) -> boo
     if p.tries == 0 {
         return false;
     }
-    if in_vain(m, s, x, p.counted, t) {
+    let counted = p.counted;
+    if in_vain(m, s, x, counted, t) {
         return true;
     }
     if p.tries == 1 {
@@ -85,10 +95,12 @@ pub fn hopeless(c: Code, m: Memory, s: Thread, x: Instr, t: u8, p: Tried) -> boo
 pub fn untried(known: Reached) -> Tried
     ensures { result ≡ record { met = known.met; tries = 0; cares = known.cares; counted = replicate 17 3; apart = true } }
 {
+    let met = known.met;
+    let cares = known.cares;
     Tried {
-        met: known.met,
+        met,
         tries: 0,
-        cares: known.cares,
+        cares,
         counted: [3; 17],
         apart: true,
     }
@@ -99,23 +111,25 @@ pub fn noted(x: Instr, t: u8, p: Tried, sub: Reached, apart: bool) -> Tried
     requires { t ≤ 16 }
     ensures { Noted x t p sub apart result }
 {
+    let before = p.cares;
     let now = sub.cares;
+    let met = sub.met;
     let mut counted = p.counted;
     match x {
         Instr::Load(_, r, _, _) => {
             counted[t as usize] = now.of_register(r);
             Tried {
-                met: sub.met,
+                met,
                 tries: smaller(p.tries, 1) + 1,
-                cares: now.forgetting(r).and(p.cares),
+                cares: now.forgetting(r).and(before),
                 counted,
                 apart: p.apart & apart,
             }
         }
         Instr::Store(_, _, _) => Tried {
-            met: sub.met,
+            met,
             tries: smaller(p.tries, 1) + 1,
-            cares: now.and(p.cares),
+            cares: now.and(before),
             counted,
             apart: p.apart,
         },

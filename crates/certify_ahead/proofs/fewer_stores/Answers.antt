@@ -5,17 +5,8 @@ use Prim.Native.Nat.{◌<◌}
 use native.Mathlib.Omega.{arith}
 use lib.ListN.{length}
 use Rattle.program.proofs.Arrays.{length_mapped, get_d_any}
-use Rattle.certify_ahead.proofs.Stores.{counts_one, counted_more, counted_all, counted_enough}
+use Rattle.certify_ahead.proofs.Stores.{counted_more, counted_all}
 use Rattle.certify_ahead.proofs.fewer_stores.Goals as goal
-
-pub loop-at-init : goal.loop-at-init
-loop-at-init c = (omega arith, omega arith)
-
-pub returns-then-k-found : goal.returns-then-k-found
-returns-then-k-found c = counted_enough _ _ _ _ _ c.loop-at.invariant c.if-k-found.true
-
-pub overflow_add-found : goal.overflow_add-found
-overflow_add-found c = let o = counts_one _ _ c.one_store.ensures in let i = c.loop-at.invariant.1 in let l = c.loop-at-test.true in let h = c.requires in omega arith
 
 pub loop-at-preserved : goal.loop-at-preserved
 loop-at-preserved c =

@@ -1,19 +1,12 @@
 -- `certify_ahead::loads_ahead` meets its contract.
 -- Assumes nothing.
-use mathlib.Core.Path.{◌≡◌, subst}
+use mathlib.Core.Path.{◌≡◌}
 use Prim.Native.Nat.{◌<◌}
 use native.Mathlib.Omega.{arith}
-use lib.Dec.{T}
 use lib.ListN.{length}
 use Rattle.program.proofs.Arrays.{length_mapped, get_d_any}
 use Rattle.certify_ahead.proofs.Loads.{none_more, none_all}
 use Rattle.certify_ahead.proofs.loads_ahead.Goals as goal
-
-pub loop-k-init : goal.loop-k-init
-loop-k-init c = λ j low l. absurd (omega arith)
-
-pub returns-then-i-eq1 : goal.returns-then-i-eq1
-returns-then-i-eq1 c = λ e. absurd (subst T e tt)
 
 pub loop-k-preserved : goal.loop-k-preserved
 loop-k-preserved c =

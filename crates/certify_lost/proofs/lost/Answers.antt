@@ -1,18 +1,11 @@
 -- `certify_lost::lost` meets its contract.
 -- Assumes nothing.
-use native.Mathlib.Omega.{arith}
 use Rattle.certify_lost.proofs.Losing.{no_store, passed_none, passed_more, passed_all}
 use Rattle.certify_lost.proofs.lost.Goals as goal
 use Rattle.certify_lost.proofs.lost.Goals.{then-is_store+in_ok-rests, else-is_store}
 
 pub loop-at-init : goal.loop-at-init
 loop-at-init c = passed_none _ _ _ _
-
-pub instr_at-x-requires : goal.instr_at-x-requires
-instr_at-x-requires c = let h = c.requires in let l = c.loop-at-test.true in (omega arith, l)
-
-pub barred-requires : goal.barred-requires
-barred-requires c = c.requires.1
 
 pub loop-at-preserved : goal.loop-at-preserved
 loop-at-preserved c =

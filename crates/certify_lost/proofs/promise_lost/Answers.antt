@@ -1,20 +1,16 @@
 -- `certify_lost::promise_lost` meets its contract.
 -- Assumes nothing.
-use mathlib.Core.Path.{sym, subst, ◌∙◌}
+use mathlib.Core.Path.{sym, subst}
 use Prim.Native.Nat.{◌+◌, ◌≤◌, ◌<◌}
 use native.Mathlib.Nat.{le_refl}
 use native.Mathlib.Omega.{arith}
 use lib.Dec.{T}
-use borrow.Author.Tests.{eqb-false}
 use Rattle.machine.specs.declared.Message.{Message}
 use Rattle.machine.proofs.Sets.{has_positive}
 use Rattle.certify_cares.specs.Cares.{Marked}
 use Rattle.certify_lost.proofs.Losing.{neither}
 use Rattle.std.proofs.lemmas.Option.{IfSome_then}
 use Rattle.certify_lost.proofs.promise_lost.Goals as goal
-
-pub first-u-requires : goal.first-u-requires
-first-u-requires c = eqb-false _ _ (sym c.is_empty.ensures ∙ c.if-is_empty.false)
 
 pub message_at-w-requires : goal.message_at-w-requires
 message_at-w-requires c = let f = c.first-u.ensures in (has_positive _ _ (subst T (sym f.member) tt), f.within)

@@ -8,17 +8,11 @@ use Rattle.certify_straight.proofs.before_straight.Goals as goal
 pub loop-j-init : goal.loop-j-init
 loop-j-init c = (search length_mapped depth 7, (c.requires, λ c' s z g. back_start c' s z _ _ _ g))
 
-pub before_compute-requires : goal.before_compute-requires
-before_compute-requires c = c.loop-j.invariant.0
-
 pub loop-j-preserved-then-e-eq0 : goal.loop-j-preserved-then-e-eq0
 loop-j-preserved-then-e-eq0 c =
     let b = c.loop-j.invariant.1 in
     let h = b.0 in
     (c.before_compute.ensures.of_len, (omega arith, λ c' s z g. one_compute_back _ _ _ _ c.loop-j-test.true c.if-e-eq0.true c.before_compute.ensures.agreeing_but c' s z _ (b.1 c' s z g)))
-
-pub before_branch-requires : goal.before_branch-requires
-before_branch-requires c = c.loop-j.invariant.0
 
 pub loop-j-preserved-then-e-eq3 : goal.loop-j-preserved-then-e-eq3
 loop-j-preserved-then-e-eq3 c =

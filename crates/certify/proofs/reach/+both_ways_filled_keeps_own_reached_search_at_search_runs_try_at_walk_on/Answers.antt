@@ -24,6 +24,7 @@ use Rattle.certify.proofs.Finding.{covers_self, covers_on, found_over}
 use Rattle.certify.proofs.Filling.{fill_no_hole, fill_none, fill_unsought, fill_here, fill_fails, alone_kept, alone_lost, hole_time, trying_filled, keeps_refused, keeps_done}
 use Rattle.certify.proofs.Missing.{knows_none, missed_none, missed_on, went_refused, went_hopeless, went_found, went_resumed, resumed_same, resumed_better, noted_met}
 use Rattle.certify.proofs.Owning.{owns_none, owns_untried, owns_stuck, owns_better, owns_on}
+use Rattle.certify.proofs.Losing.{fruitless_found}
 use Rattle.certify.proofs.Blind.{blind_found}
 use Rattle.certify.proofs.Showing.{unmet_zero, still_unmet, filled_none, shows_none, shows_stop, shows_walked, shows_missed, shows_emptied, shows_resumed, shows_stored, shows_tried, shows_owned}
 use Rattle.certify.proofs.Forking.{fork_other, both_found, ended_further, ended_forked}
@@ -207,13 +208,13 @@ pub search_at-worth_a_look-requires : goal.search_at-worth_a_look-requires
 search_at-worth_a_look-requires t c =
     let w = c.requires.0 in let h = w.ready.code_ok.short in let l = (there _ _ _ w.is_next).0 in (h, omega arith)
 
-pub search_at-foreseen-requires : goal.search_at-foreseen-requires
-search_at-foreseen-requires t c =
+pub search_at-fruitless-requires : goal.search_at-fruitless-requires
+search_at-fruitless-requires t c =
     let w = c.requires.0 in (w.ready.code_ok.short, w.ready.room)
 
 pub search_at-returns-in-Some : goal.search_at-returns-in-Some
 search_at-returns-in-Some t c =
-    record { found = c.in-Some.ensures.0 _; shows = shows_none c.args.q _ (λ e. c.in-Some.ensures.1) }
+    record { found = fruitless_found _ _ _ _ c.args.q _ c.in-Some.ensures; shows = shows_none c.args.q _ (λ e. refl) }
 
 pub search_at-worth_asking-requires : goal.search_at-worth_asking-requires
 search_at-worth_asking-requires t c =

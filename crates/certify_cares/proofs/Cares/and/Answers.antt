@@ -7,9 +7,6 @@ use Rattle.program.proofs.Arrays.{length_mapped}
 use Rattle.certify_cares.proofs.Agreeing.{joined_more, joined_all}
 use Rattle.certify_cares.proofs.Cares.and.Goals as goal
 
-pub loop-j-init : goal.loop-j-init
-loop-j-init c = (search length_mapped depth 7, λ j x y a. (a, λ l. absurd (omega arith)))
-
 pub loop-j-preserved : goal.loop-j-preserved
 loop-j-preserved c =
     let h : length c.args.other.of ≡ 8 = search length_mapped depth 7 in

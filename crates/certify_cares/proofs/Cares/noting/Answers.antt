@@ -1,22 +1,11 @@
 -- `certify_cares::Cares::noting` meets its contract.
 -- Assumes nothing.
-use mathlib.Core.Path.{◌≡◌, refl}
+use mathlib.Core.Path.{◌≡◌}
 use native.Mathlib.Omega.{arith}
 use lib.ListN.{length}
 use Rattle.program.proofs.Arrays.{length_mapped}
-use Rattle.certify_cares.specs.Cares.{same}
-use Rattle.certify_cares.proofs.Agreeing.{asked_past, noted}
+use Rattle.certify_cares.proofs.Agreeing.{noted}
 use Rattle.certify_cares.proofs.Cares.noting.Goals as goal
-
-pub returns-then-n-ge8 : goal.returns-then-n-ge8
-returns-then-n-ge8 c =
-    let k = c.args.self.of in
-    let h : length k ≡ 8 = search length_mapped depth 7 in
-    let l = c.if-n-ge8.true in
-    λ s s' a. rw c.in-OfRegister.is (a, same (asked_past k c.in-OfRegister.n (omega arith) (a c.in-OfRegister.n)))
-
-pub returns-in-Constant : goal.returns-in-Constant
-returns-in-Constant c = λ s s' a. rw c.in-Constant.is (a, same refl)
 
 pub returns-else-n-ge8 : goal.returns-else-n-ge8
 returns-else-n-ge8 c =

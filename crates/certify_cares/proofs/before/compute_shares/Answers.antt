@@ -1,11 +1,7 @@
 -- `certify_cares::before::compute_shares` meets its contract: one case for each mode.
 -- Assumes nothing.
-use Rattle.certify_cares.proofs.Agreeing.{nothing_asked}
 use Rattle.certify_cares.proofs.Results.{is_sum, is_difference, is_exclusive, is_equal, same_equal}
 use Rattle.certify_cares.proofs.before.compute_shares.Goals as goal
-
-pub returns-then-care-eq0 : goal.returns-then-care-eq0
-returns-then-care-eq0 c = λ x' y' p q. nothing_asked c.if-care-eq0.true
 
 pub returns-then-m-eq0 : goal.returns-then-m-eq0
 returns-then-m-eq0 c = λ x' y' p q. rw (is_sum _ c.if-m-eq0.true) (c.sum_shares.ensures x' y' p q)

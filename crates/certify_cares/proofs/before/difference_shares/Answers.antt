@@ -2,17 +2,11 @@
 -- Assumes nothing.
 use mathlib.Core.Path.{refl}
 use native.Mathlib.Omega.{arith}
-use Rattle.certify_cares.proofs.Results.{same_result, placed_difference, other_difference, other_difference_first}
+use Rattle.certify_cares.proofs.Results.{placed_difference, other_difference, other_difference_first}
 use Rattle.certify_cares.proofs.before.difference_shares.Goals as goal
 
 pub returns-then-care-eq0 : goal.returns-then-care-eq0
 returns-then-care-eq0 c = λ x' y' p q. placed_difference c.if-care-eq0.true c.turned.result (omega arith) c.turned.ensures (rw c.barring.ensures at p) q
-
-pub returns-then-care-lt256 : goal.returns-then-care-lt256
-returns-then-care-lt256 c = let b = c.both.ensures in λ x' y' p q. same_result _ (rw b.0 at p) (rw b.1 at q)
-
-pub returns-then-care-gt511 : goal.returns-then-care-gt511
-returns-then-care-gt511 c = let b = c.both-then-care-gt511.ensures in λ x' y' p q. same_result _ (rw b.0 at p) (rw b.1 at q)
 
 pub returns-then-care-ne256 : goal.returns-then-care-ne256
 returns-then-care-ne256 c =

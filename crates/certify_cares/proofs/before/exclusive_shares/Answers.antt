@@ -2,32 +2,14 @@
 -- Assumes nothing.
 use mathlib.Core.Path.{refl}
 use native.Mathlib.Omega.{arith}
-use Rattle.certify_cares.proofs.Results.{exclusive_byte, same_result, placed_exclusive, other_exclusive, other_exclusive_first}
+use Rattle.certify_cares.proofs.Results.{placed_exclusive, other_exclusive, other_exclusive_first}
 use Rattle.certify_cares.proofs.before.exclusive_shares.Goals as goal
 
 pub returns-then-care-eq0 : goal.returns-then-care-eq0
 returns-then-care-eq0 c = let b = c.both.ensures in let l = c.barring.ensures in λ x' y' p q. placed_exclusive c.if-care-eq0.true (rw (b.0, l) at p) (rw (b.1, l) at q)
 
-pub returns-then-care-lt256 : goal.returns-then-care-lt256
-returns-then-care-lt256 c = let b = c.both-then-care-lt256.ensures in λ x' y' p q. same_result _ (rw b.0 at p) (rw b.1 at q)
-
-pub returns-then-care-gt511 : goal.returns-then-care-gt511
-returns-then-care-gt511 c = let b = c.both-then-care-gt511.ensures in λ x' y' p q. same_result _ (rw b.0 at p) (rw b.1 at q)
-
-pub overflow_cast-result : goal.overflow_cast-result
-overflow_cast-result c = let a = c.args in let t = exclusive_byte a.x a.care (omega arith) in omega arith
-
-pub overflow_add-result : goal.overflow_add-result
-overflow_add-result c = let a = c.args in let t = exclusive_byte a.x a.care (omega arith) in omega arith
-
 pub returns-then-earlier : goal.returns-then-earlier
 returns-then-earlier c = λ x' y' p q. other_exclusive c.if-care-lt256.false (let l = c.if-care-gt511.false in omega arith) refl (omega arith) p q
-
-pub overflow_cast-result-2 : goal.overflow_cast-result-2
-overflow_cast-result-2 c = let a = c.args in let t = exclusive_byte a.y a.care (omega arith) in omega arith
-
-pub overflow_add-result-2 : goal.overflow_add-result-2
-overflow_add-result-2 c = let a = c.args in let t = exclusive_byte a.y a.care (omega arith) in omega arith
 
 pub returns : goal.returns
 returns c = λ x' y' p q. other_exclusive_first c.if-care-lt256.false (let l = c.if-care-gt511.false in omega arith) refl (omega arith) q p

@@ -8,9 +8,6 @@ use Rattle.certify_sought.proofs.asks.other_values.Goals.{then-w-l, else-w-l}
 pub loop-u-init : goal.loop-u-init
 loop-u-init c = (c.after-u.ensures.later, values_first c.args.m _ _ _ _ _ c.after-u.ensures)
 
-pub message_at-w-requires : goal.message_at-w-requires
-message_at-w-requires c = let h = c.requires in let l = c.loop-u-test.true in (c.loop-u.invariant.0, omega arith)
-
 pub loop-u-preserved : goal.loop-u-preserved
 loop-u-preserved c =
     let a = c.args in
