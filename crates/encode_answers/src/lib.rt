@@ -5,10 +5,10 @@ ghost use Rattle.std.specs.Prelude.{◌≡◌, [], ◌+◌, ◌≤◌, length};
 ghost use Rattle.certify_runs.specs.Values.{run_of};
 ghost use Rattle.encode_bytes.specs.Places.{put};
 ghost use Rattle.encode_numbers.specs.Cases.{search_steps};
-ghost use Rattle.encode_answers.specs.Value.{read_bytes, stepped_bytes, entries_bytes, shown_bytes, certified_bytes, replayed_bytes, found_bytes, searched_bytes, within_bytes, listing_bytes, listed_bytes, listed_within_bytes};
+ghost use Rattle.encode_answers.specs.Value.{read_bytes, stepped_bytes, entry_bytes, entries_bytes, shown_bytes, certified_bytes, replayed_bytes, found_bytes, searched_bytes, within_bytes, listing_bytes, listed_bytes, listed_within_bytes};
 
 use certify_runs::{Run, RunStep};
-use encode_bytes::{put_four, put_one, put_two, put_u32, put_u64};
+use encode_bytes::{Encode, put_bytes, put_each, put_four, put_one, put_u32, put_u64};
 use encode_machine::put_machine;
 use encode_numbers::{
     listing_byte, listing_count, listing_refusal, outcomes_number, refused_number, refused_place,
@@ -52,15 +52,27 @@ pub fn put_stepped(area: &mut [u8], x: Machine, r: Result<Machine, Refusal>)
     }
 }
 
+// Names the byte form of an entry of a run.
+struct Bytes;
+
+impl Encode<RunStep> for Bytes {
+    ghost WIDTH = { 2 };
+
+    ghost bytes = { entry_bytes };
+
+    const WIDTH: usize = 2;
+
+    fn put(area: &mut [u8], at: usize, s: &RunStep) {
+        put_bytes(area, at, &[s.kind, s.time]);
+    }
+}
+
 // The 16 entries of a run.
 fn put_entries(area: &mut [u8], at: usize, r: Run)
     requires { at + 32 ≤ length area.old }
     ensures { area.new ≡ put at (entries_bytes r) area.old }
 {
-    for k in 0..16 {
-        let s = r.steps[k];
-        put_two(area, at + 2 * k, s.kind, s.time);
-    }
+    put_each::<RunStep, Bytes, 16>(area, at, &r.steps);
 }
 
 fn no_run() -> Run

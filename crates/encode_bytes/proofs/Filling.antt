@@ -1,57 +1,30 @@
--- A loop that fills an array with entries of equal width, read from bytes.
+-- An array whose entries are read from bytes, one call for each index.
 -- Assumes nothing.
-use mathlib.Core.Path.{◌≡◌, sym, ap, ap₂, ◌∙◌}
-use mathlib.Core.List.{List, [], ◌∷◌, ◌++◌, append_assoc, append-nil}
-use Prim.Native.Nat.{ℕ, suc, ◌+◌, ◌-◌, ◌≤◌, ◌<◌}
+use denote.Param.Members.{Mut, Called}
+use mathlib.Core.Path.{◌≡◌, sym, ap, ap₂, subst, ◌∙◌}
+use mathlib.Core.List.{List, [], ◌∷◌}
+use Prim.Native.Nat.{ℕ, zero, suc, ◌+◌, ◌*◌}
+use native.Mathlib.Nat.{mul-zero, mul-suc}
 use native.Mathlib.Omega.{arith}
-use lib.ListN.{length, take, drop, set, replicate, length-set, length-replicate}
-use lib.Seq.{drop-drop, take_all, take-suc-set}
+use lib.ListN.{length, drop, drop_of_length-le}
+use lib.Seq.{drop-cons, drop-drop}
+use Rattle.std.specs.Array.{IsFromFnResult, IsFromFnResultFrom}
 use Rattle.encode_bytes.specs.Lists.{entries}
 
--- k of n entries are read from place `at` on, the next is at place j
-pub record Filling {A : Type 0} (f : List ℕ → A) (w n at : ℕ) (b : List ℕ) (k j : ℕ) (xs : List A) : Type 0 where
-  pub within : k ≤ n
-  pub full : length xs ≡ n
-  pub rest : take k xs ++ entries f w (n - k) (drop j b) ≡ entries f w n (drop at b)
-
-module _ {A : Type 0} {f : List ℕ → A} {w at : ℕ} {b : List ℕ} where
-  -- all places hold the first entry
-  pub filling_one : {n j : ℕ} {v : A} → v ≡ f (drop at b) → j ≡ at + w → Filling f w (suc n) at b 1 j (replicate (suc n) v)
+-- each call reads the entry at its index, and leaves the closure as it is
+module _ {F A : Type 0} {g : Mut F (ℕ × Unit {0}) A} {f : F} (value : List ℕ → A) (w at : ℕ) (b : List ℕ) (reads : (i : ℕ) (y : A) (q : F) → Called g f (i, tt) y q → (y ≡ value (drop (at + w * i) b)) × (q ≡ f)) where
+  from_index : (n i : ℕ) (ys : List A) → length ys ≡ i + n → IsFromFnResultFrom g f ys i n → drop i ys ≡ entries value w n (drop (at + w * i) b)
   unfolding entries
-  filling_one {n} {j} {v} e ej =
-      record {
-        within = omega arith;
-        full = length-replicate (suc n) v;
-        rest =
-            let z : suc n - 1 ≡ n = omega arith in
-            let y : drop j b ≡ drop w (drop at b) = ap (λ (x : ℕ). drop x b) ej ∙ sym (drop-drop w at b) in
-            ap₂ (λ (x : ℕ) (l : List ℕ). v ∷ entries f w x l) z y ∙ ap (λ (x : A). x ∷ entries f w n (drop w (drop at b))) e;
-      }
+  from_index zero i ys l h = drop_of_length-le ys {i = i} (omega arith)
+  from_index (suc n) i ys l (q, y, e, c, rest) =
+      let s = reads i y q c in
+      let next : suc i ≡ i + 1 = omega arith in
+      let place : at + w * i + w ≡ at + w * (i + 1) = omega (arith, ap (λ (k : ℕ). w * k) next, mul-suc w i) in
+      let more = from_index n (i + 1) ys (omega arith) (subst (λ (p : F). IsFromFnResultFrom g p ys (i + 1) n) s.1 rest) in
+      drop-cons ys i y (omega arith)
+      ∙ ap₂ (λ (x : A) (xs : List A). x ∷ xs) (e.0 ∙ s.0) (ap (λ (k : ℕ). drop k ys) next ∙ more ∙ ap (entries value w n) (ap (λ (k : ℕ). drop k b) (sym place) ∙ sym (drop-drop w (at + w * i) b)))
 
-  module _ {n : ℕ} where
-    pub filling_more : {k j k' j' : ℕ} {xs : List A} {v : A} → Filling f w n at b k j xs → k < n → v ≡ f (drop j b) → k' ≡ k + 1 → j' ≡ j + w → Filling f w n at b k' j' (set xs k v)
-    unfolding entries
-    filling_more {k} {j} {k'} {j'} {xs} {v} p h e ek ej =
-        record {
-          within = omega arith;
-          full = length-set xs k v ∙ p.full;
-          rest =
-              let z : n - k ≡ suc (n - k') = omega arith in
-              let y : k' ≡ suc k = omega arith in
-              let l : k < length xs = let q = p.full in omega arith in
-              let d : drop j' b ≡ drop w (drop j b) = ap (λ (x : ℕ). drop x b) ej ∙ sym (drop-drop w j b) in
-              ap₂ (λ (x : List A) (c : List ℕ). x ++ entries f w (n - k') c) (ap (λ (x : ℕ). take x (set xs k v)) y ∙ take-suc-set xs k v l) d
-              ∙ append_assoc (take k xs) (v ∷ []) (entries f w (n - k') (drop w (drop j b)))
-              ∙ ap (λ (x : A). take k xs ++ (x ∷ entries f w (n - k') (drop w (drop j b)))) e
-              ∙ sym (ap (λ (x : ℕ). take k xs ++ entries f w x (drop j b)) z)
-              ∙ p.rest;
-        }
-
-    pub filling_all : {k j : ℕ} {xs : List A} → Filling f w n at b k j xs → n ≤ k → xs ≡ entries f w n (drop at b)
-    unfolding entries
-    filling_all {k} {j} {xs} p h =
-        let z : n - k ≡ 0 = omega arith in
-        let l : length xs ≤ k = let q = p.full in omega arith in
-        sym (append-nil xs) ∙ ap (λ (x : List A). x ++ []) (sym (take_all k xs l))
-        ∙ sym (ap (λ (x : ℕ). take k xs ++ entries f w x (drop j b)) z)
-        ∙ p.rest
+  pub each_read : (n : ℕ) (ys : List A) → IsFromFnResult g f ys n → ys ≡ entries value w n (drop at b)
+  each_read n ys h =
+      let z : at + w * 0 ≡ at = omega (arith, mul-zero w) in
+      from_index n 0 ys (let l = h.long in omega arith) h.each ∙ ap (λ (k : ℕ). entries value w n (drop k b)) z

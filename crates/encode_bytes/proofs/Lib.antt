@@ -1,5 +1,4 @@
 pub mod Putting
-pub mod Clearing
 pub mod Filling
 pub mod Entries
 pub mod Words

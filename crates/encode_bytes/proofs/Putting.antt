@@ -1,11 +1,13 @@
--- A list with some bytes replaced: one byte, a run, one run after the other, and a loop that writes entries of equal width.
+-- A list with some bytes replaced: one byte, a run, one run after the other, and entry after entry.
 -- Assumes nothing.
 use mathlib.Core.Path.{◌≡◌, sym, ap, ap₂, subst, ◌∙◌}
 use mathlib.Core.List.{List, [], ◌∷◌, ◌++◌, append_assoc}
 use mathlib.Core.Logic.{◌⊎◌, inl, inr}
-use Prim.Native.Nat.{ℕ, suc, ◌+◌, ◌-◌, ◌≤◌, ◌<◌}
+use Prim.Native.Nat.{ℕ, suc, ◌+◌, ◌*◌, ◌-◌, ◌≤◌, ◌<◌}
+use native.Mathlib.Nat.{mul-suc, mul-le-mul_left}
 use native.Mathlib.Omega.{arith}
 use lib.ListN.{length, get_or, take, drop, set, length-append, length-take, length-drop, take-append-drop, get_or-append}
+use borrow.Rule.Slice.PartMut.{put_mid}
 use lib.Seq.{sets, sets-eq, set_split, length-take-le, take_at, drop_at, drop-drop, get_or-take, get_or-drop, get_or-append-add}
 use Rattle.encode_bytes.specs.Lists.{joined}
 use Rattle.encode_bytes.specs.Places.{put}
@@ -73,38 +75,37 @@ put_beside i n k bs a e h (inr l) =
     let m : i + length bs + (k - (i + n)) ≡ k = omega arith in
     subst (λ (j : ℕ). get_or (put i bs a) j 0 ≡ get_or a j 0) m (put_behind i (k - (i + n)) bs a h)
 
--- ---- a loop that writes n entries from place `at` on: k are written, the next goes to place j
-pub record Putting (f : ℕ → List ℕ) (n at : ℕ) (a₀ : List ℕ) (k j : ℕ) (a : List ℕ) : Type 0 where
-  pub within : k ≤ n
-  pub same : length a ≡ length a₀
-  pub rest : put j (joined f k (n - k)) a ≡ put at (joined f 0 n) a₀
+-- the bytes from place i on, replaced by as many
+pub put_part : (i k : ℕ) (bs ys a : List ℕ) → ys ≡ bs → k ≡ length bs → put_mid i k a ys ≡ put i bs a
+unfolding put
+put_part i k bs ys a e l = ap₂ (λ (y z : List ℕ). take i a ++ (y ++ z)) e (drop-drop k i a ∙ ap (λ (n : ℕ). drop (i + n) a) l)
 
-module _ {f : ℕ → List ℕ} {n at : ℕ} {a₀ : List ℕ} where
-  pub putting_none : {j : ℕ} → j ≡ at → Putting f n at a₀ 0 j a₀
-  putting_none e =
-      record {
-        within = omega arith;
-        same = λ i. length a₀;
-        rest = let z : n - 0 ≡ n = omega arith in ap₂ (λ (x y : ℕ). put x (joined f 0 y) a₀) e z;
-      }
-
-  pub putting_more : {k j k' j' : ℕ} {a a' : List ℕ} → Putting f n at a₀ k j a → k < n → a' ≡ put j (f k) a → k' ≡ k + 1 → j' ≡ j + length (f k) → j' ≤ length a → Putting f n at a₀ k' j' a'
+-- ---- n entries, one after the other, of which k are written: the next goes to place j
+module _ (f : ℕ → List ℕ) (n : ℕ) where
+  pub entry_put : {k j k' j' : ℕ} (a : List ℕ) {a' : List ℕ} → k < n → a' ≡ put j (f k) a → k' ≡ k + 1 → j' ≡ j + length (f k) → j ≤ length a → put j' (joined f k' (n - k')) a' ≡ put j (joined f k (n - k)) a
   unfolding joined
-  putting_more {k} {j} {k'} {j'} {a} {a'} p h e ek ej l =
-      record {
-        within = omega arith;
-        same = ap length e ∙ put_length j (f k) a (omega arith) ∙ p.same;
-        rest =
-            let z : n - k ≡ suc (n - k') = omega arith in
-            let y : k' ≡ suc k = omega arith in
-            ap₂ (λ (x : ℕ) (b : List ℕ). put j' (joined f x (n - k')) b) y e
-            ∙ put_more j j' (f k) (joined f (suc k) (n - k')) a ej (omega arith)
-            ∙ sym (ap (λ (x : ℕ). put j (joined f k x) a) z)
-            ∙ p.rest;
-      }
+  entry_put {k} {j} {k'} {j'} a {a'} h e ek ej l =
+      let z : n - k ≡ suc (n - k') = omega arith in
+      let y : k' ≡ suc k = omega arith in
+      ap₂ (λ (x : ℕ) (b : List ℕ). put j' (joined f x (n - k')) b) y e
+      ∙ put_more j j' (f k) (joined f (suc k) (n - k')) a ej l
+      ∙ sym (ap (λ (x : ℕ). put j (joined f k x) a) z)
 
-  pub putting_all : {k j : ℕ} {a : List ℕ} → Putting f n at a₀ k j a → n ≤ k → a ≡ put at (joined f 0 n) a₀
+  pub none_put : (j : ℕ) (a : List ℕ) → put j (joined f 0 (n - 0)) a ≡ put j (joined f 0 n) a
+  none_put j a = let z : n - 0 ≡ n = omega arith in ap (λ (m : ℕ). put j (joined f 0 m) a) z
+
+  pub all_put : {k : ℕ} (j : ℕ) (a : List ℕ) → n ≤ k → put j (joined f k (n - k)) a ≡ a
   unfolding joined
-  putting_all {k} {j} {a} p h =
-      let z : 0 ≡ n - k = omega arith in
-      sym (put_none j a) ∙ ap (λ (x : ℕ). put j (joined f k x) a) z ∙ p.rest
+  all_put {k} j a h = let z : n - k ≡ 0 = omega arith in ap (λ (x : ℕ). put j (joined f k x) a) z ∙ put_none j a
+
+-- ---- entries of w bytes: the place of the next, which is within n of them
+pub next_place : (w k : ℕ) → w * (k + 1) ≡ w * k + w
+next_place w k = let e : k + 1 ≡ suc k = omega arith in ap (λ (j : ℕ). w * j) e ∙ mul-suc w k ∙ omega arith
+
+pub within_place : (w n k : ℕ) → k < n → w * k + w ≤ w * n
+within_place w n k h = let m : w * (k + 1) ≤ w * n = mul-le-mul_left w (omega arith) in omega (arith, next_place w k)
+
+-- the front replaced
+pub put_front : (n : ℕ) (bs ys a : List ℕ) → ys ≡ bs → n ≡ length bs → ys ++ drop n a ≡ put 0 bs a
+unfolding put
+put_front n bs ys a e l = ap₂ (λ (y : List ℕ) (k : ℕ). y ++ drop k a) e (omega arith)

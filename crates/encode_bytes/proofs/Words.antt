@@ -50,21 +50,3 @@ pub same_word64 : (a b : List ℕ) → ((i : ℕ) → i < 8 → get_or a i 0 ≡
 same_word64 a b agree =
     ap₂ (λ (low high : ℕ). low + 4294967296 * high) (same_word32 a b (λ i h. agree i (omega arith)))
     (same_word32 (drop 4 a) (drop 4 b) (λ i h. get_or-drop 4 a i 0 ∙ agree (4 + i) (omega arith) ∙ sym (get_or-drop 4 b i 0)))
-
--- the number of the eight bytes from a place on
-pub word64_at : (b : List ℕ) (at low high : ℕ) → low ≡ get_or b at 0 + 256 * get_or b (at + 1) 0 + 65536 * get_or b (at + 2) 0 + 16777216 * get_or b (at + 3) 0
-    → high ≡ get_or b (at + 4) 0 + 256 * get_or b (at + 5) 0 + 65536 * get_or b (at + 6) 0 + 16777216 * get_or b (at + 7) 0
-    → low + 4294967296 * high ≡ word64_from (drop at b)
-word64_at b at low high e f =
-    let near : (i : ℕ) → get_or (drop at b) i 0 ≡ get_or b (at + i) 0 = λ i. get_or-drop at b i 0 in
-    let far : (i : ℕ) → get_or (drop 4 (drop at b)) i 0 ≡ get_or b (at + (4 + i)) 0 = λ i. get_or-drop 4 (drop at b) i 0 ∙ get_or-drop at b (4 + i) 0 in
-    let z : at + 0 ≡ at = omega arith in
-    let a = near 0 ∙ ap (λ (k : ℕ). get_or b k 0) z in
-    let c = near 1 in
-    let d = near 2 in
-    let g = near 3 in
-    let h = far 0 in
-    let i = far 1 in
-    let j = far 2 in
-    let k = far 3 in
-    omega arith

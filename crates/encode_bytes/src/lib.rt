@@ -1,24 +1,41 @@
-// Bytes and numbers written into a lent area at a place: what the byte forms of programs and machines are made of.
+// Bytes and numbers written into a lent area at a place, and arrays of values that have a byte form: what the byte forms of programs
+// and machines are made of.
 #![tactic(auto)]
 
-ghost use Rattle.std.specs.Prelude.{◌≡◌, [], ◌∷◌, ◌+◌, ◌*◌, ◌≤◌, length, drop, replicate};
+ghost use Rattle.std.specs.Prelude.{◌≡◌, List, [], ◌∷◌, ℕ, ◌+◌, ◌*◌, ◌≤◌, length, get_or, drop, replicate};
 ghost use Rattle.encode_bytes.specs.Inner.{word64_from};
+ghost use Rattle.encode_bytes.specs.Lists.{joined, entries};
 ghost use Rattle.encode_bytes.specs.Places.{put};
 ghost use Rattle.encode_bytes.specs.Numbers.{word16, word32, word64};
+
+use std::array;
+
+pub fn put_bytes(area: &mut [u8], at: usize, bytes: &[u8])
+    requires { at + length bytes.now ≤ length area.old }
+    ensures { area.new ≡ put at bytes.now area.old }
+{
+    area[at..at + bytes.len()].copy_from_slice(bytes);
+}
 
 pub fn put_one(area: &mut [u8], at: usize, a: u8)
     requires { at + 1 ≤ length area.old }
     ensures { area.new ≡ put at (a ∷ []) area.old }
 {
-    area[at] = a;
+    put_bytes(area, at, &[a]);
 }
 
 pub fn put_two(area: &mut [u8], at: usize, a: u8, b: u8)
     requires { at + 2 ≤ length area.old }
     ensures { area.new ≡ put at (a ∷ b ∷ []) area.old }
 {
-    area[at] = a;
-    area[at + 1] = b;
+    put_bytes(area, at, &[a, b]);
+}
+
+pub fn put_four(area: &mut [u8], at: usize, a: u8, b: u8, c: u8, d: u8)
+    requires { at + 4 ≤ length area.old }
+    ensures { area.new ≡ put at (a ∷ b ∷ c ∷ d ∷ []) area.old }
+{
+    put_bytes(area, at, &[a, b, c, d]);
 }
 
 // Low byte first.
@@ -26,17 +43,7 @@ pub fn put_u16(area: &mut [u8], at: usize, n: u16)
     requires { at + 2 ≤ length area.old }
     ensures { area.new ≡ put at (word16 n) area.old }
 {
-    put_two(area, at, (n % 256) as u8, (n / 256) as u8)
-}
-
-pub fn put_four(area: &mut [u8], at: usize, a: u8, b: u8, c: u8, d: u8)
-    requires { at + 4 ≤ length area.old }
-    ensures { area.new ≡ put at (a ∷ b ∷ c ∷ d ∷ []) area.old }
-{
-    area[at] = a;
-    area[at + 1] = b;
-    area[at + 2] = c;
-    area[at + 3] = d;
+    put_bytes(area, at, &n.to_le_bytes());
 }
 
 // The low 32 bits, low byte first.
@@ -44,14 +51,7 @@ pub fn put_u32(area: &mut [u8], at: usize, n: usize)
     requires { at + 4 ≤ length area.old }
     ensures { area.new ≡ put at (word32 n) area.old }
 {
-    put_four(
-        area,
-        at,
-        (n % 256) as u8,
-        (n / 256 % 256) as u8,
-        (n / 65536 % 256) as u8,
-        (n / 16777216 % 256) as u8,
-    )
+    put_bytes(area, at, &n.to_le_bytes()[..4]);
 }
 
 // The low 64 bits, low byte first.
@@ -59,21 +59,14 @@ pub fn put_u64(area: &mut [u8], at: usize, n: u64)
     requires { at + 8 ≤ length area.old }
     ensures { area.new ≡ put at (word64 n) area.old }
 {
-    put_u32(area, at, n as usize);
-    put_u32(area, at + 4, (n / 4294967296) as usize);
+    put_bytes(area, at, &n.to_le_bytes());
 }
 
 // The number that put_u16 wrote as these two bytes.
 pub fn u16_of(low: u8, high: u8) -> u16
     ensures { result ≡ low + 256 * high }
 {
-    low as u16 + 256 * high as u16
-}
-
-fn u32_of(a: u8, b: u8, c: u8, d: u8) -> u32
-    ensures { result ≡ a + 256 * b + 65536 * c + 16777216 * d }
-{
-    a as u32 + 256 * b as u32 + 65536 * c as u32 + 16777216 * d as u32
+    u16::from_le_bytes([low, high])
 }
 
 // The number that put_u64 wrote at the place.
@@ -81,9 +74,9 @@ pub fn u64_at(b: &[u8], at: usize) -> u64
     requires { at + 8 ≤ length b.now }
     ensures { result ≡ word64_from (drop at b.now) }
 {
-    let low = u32_of(b[at], b[at + 1], b[at + 2], b[at + 3]);
-    let high = u32_of(b[at + 4], b[at + 5], b[at + 6], b[at + 7]);
-    low as u64 + 4294967296 * high as u64
+    let mut bytes = [0u8; 8];
+    bytes.copy_from_slice(&b[at..at + 8]);
+    u64::from_le_bytes(bytes)
 }
 
 // The first n bytes are 0 then.
@@ -91,9 +84,52 @@ pub fn clear_front(area: &mut [u8], n: usize)
     requires { n ≤ length area.old }
     ensures { area.new ≡ put 0 (replicate n 0) area.old }
 {
-    let mut k = 0;
-    while k < n {
-        area[k] = 0;
-        k += 1;
+    area[..n].fill(0);
+}
+
+// How a value of T stands as WIDTH bytes. The type that implements it is only a name, of the crate that gives T this form.
+pub trait Encode<T> {
+    ghost WIDTH: { ℕ };
+
+    ghost bytes: { T → List ℕ };
+
+    const WIDTH: usize;
+
+    fn put(area: &mut [u8], at: usize, x: &T)
+        requires { at + WIDTH ≤ length area.old }
+        ensures written { area.new ≡ put at (bytes x.now) area.old }
+        ensures wide { length (bytes x.now) ≡ WIDTH };
+}
+
+// The value that such bytes stand for.
+pub trait Decode<T>: Encode<T> {
+    ghost value: { List ℕ → T };
+
+    fn read(b: &[u8], at: usize) -> T
+        requires { at + Self.WIDTH ≤ length b.now }
+        ensures { result ≡ value (drop at b.now) };
+}
+
+// The entries of an array, one after the other.
+pub fn put_each<T, F: Encode<T>, const N: usize>(area: &mut [u8], at: usize, xs: &[T; N])
+    requires { at + F.WIDTH * N ≤ length area.old }
+    ensures { (d : T) → area.new ≡ put at (joined (λ k. F.bytes (get_or xs.now k d)) 0 N) area.old }
+{
+    let mut to = at;
+    for x in xs {
+        F::put(area, to, x);
+        to += F::WIDTH;
     }
+}
+
+// The array of such entries.
+pub fn each_from<T, F: Decode<T>, const N: usize>(b: &[u8], at: usize) -> [T; N]
+    requires { at + F.WIDTH * N ≤ length b.now }
+    ensures { result ≡ entries F.value F.WIDTH N (drop at b.now) }
+{
+    array::from_fn(
+        |k: usize| -> T
+            requires { at + (F.WIDTH * k + F.WIDTH) ≤ length b.now }
+        { F::read(b, at + F::WIDTH * k) },
+    )
 }

@@ -14,7 +14,6 @@ use Rattle.machine.specs.State.{no_message}
 use Rattle.step.specs.Order.{range}
 use Rattle.step.specs.Outcome.{last_of}
 use Rattle.encode_bytes.specs.Places.{put}
-use Rattle.encode_bytes.proofs.Putting.{put_length}
 use Rattle.search_outcomes.specs.Inner.{lasts_of}
 use Rattle.search_outcomes.proofs.Writing.{put_over}
 
@@ -76,9 +75,6 @@ module _ {o₀ : List ℕ} {m : Memory} (empty : o₀ ≡ replicate 48 0) where
   unfolding put lasts_of range last_of
   lasting_none = record { within = omega arith; so_far = empty ∙ ap (put 32 (lasts_of m 0)) (sym empty) }
 
-  pub lasting_length : {t : ℕ} {o : List ℕ} → Lasting o₀ m t o → length o ≡ length o₀
-  lasting_length {t} p = let l = lasts_length m t in let n = ap length empty in ap length p.so_far ∙ put_length 32 (lasts_of m t) o₀ (omega arith)
-
   pub lasting_more : {t : ℕ} {o : List ℕ} → Lasting o₀ m t o → t < m.count → (w : Message) → w ≡ get_or m.messages t no_message → w.location < 16
       → Lasting o₀ m (t + 1) (set o (32 + w.location) w.value)
   lasting_more {t} {o} p h w e low =
@@ -92,6 +88,3 @@ module _ {o₀ : List ℕ} {m : Memory} (empty : o₀ ≡ replicate 48 0) where
             ∙ put_over 32 w.location w.value (lasts_of m t) o₀ (omega arith) (omega arith)
             ∙ ap (λ (x : List ℕ). put 32 x o₀) (lasts_more m t w e low ∙ ap (lasts_of m) s);
       }
-
-  pub lasting_all : {t : ℕ} {o : List ℕ} → Lasting o₀ m t o → m.count ≤ t → o ≡ put 32 (lasts_of m m.count) o₀
-  lasting_all {t} p h = let w = p.within in let e : t ≡ m.count = omega arith in p.so_far ∙ ap (λ (n : ℕ). put 32 (lasts_of m n) o₀) e

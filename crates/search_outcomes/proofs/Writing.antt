@@ -1,15 +1,13 @@
 -- Bytes written into a list: in front of others, over others, and moved up.
 -- Assumes nothing.
-use mathlib.Core.Path.{◌≡◌, refl, sym, ap, ap₂, ◌∙◌}
+use mathlib.Core.Path.{◌≡◌, sym, ap, ap₂, ◌∙◌}
 use mathlib.Core.List.{List, [], ◌∷◌, ◌++◌, append_assoc}
-use mathlib.Core.Logic.{inl}
-use Prim.Native.Nat.{ℕ, zero, suc, ◌+◌, ◌-◌, ◌≤◌, ◌<◌}
+use Prim.Native.Nat.{ℕ, suc, ◌+◌, ◌-◌, ◌≤◌, ◌<◌}
 use native.Mathlib.Omega.{arith}
-use lib.ListN.{length, get_or, take, drop, set, length-append, length-drop, length-set}
-use lib.Seq.{drop-cons, drop_at, take-append-le, take-take, take_all, length-take-le, set-append_left}
-use Rattle.encode_bytes.specs.Lists.{joined}
+use lib.ListN.{length, take, drop, set, length-append, length-drop, length-set}
+use lib.Seq.{drop_at, take-append-le, take-take, length-take-le, set-append_left}
+use Rattle.std.specs.List.{copy_within}
 use Rattle.encode_bytes.specs.Places.{put}
-use Rattle.encode_bytes.proofs.Putting.{put_none, put_one, put_length, put_beside}
 
 -- ---- in front of bytes that were put
 pub put_earlier : (i j : ℕ) (bs cs a : List ℕ) → j ≡ i + length bs → j ≤ length a → put i bs (put j cs a) ≡ put i (bs ++ cs) a
@@ -47,65 +45,10 @@ put_over i l v bs a h m =
     ∙ set_behind (take i a) (bs ++ rest) l v
     ∙ ap (λ (x : List ℕ). take i a ++ x) (set-append_left bs rest l v m ∙ ap (λ (k : ℕ). set bs l v ++ drop (i + k) a) (sym same))
 
--- ---- the bytes of a list, one by one
-pub joined_bytes : (xs : List ℕ) (k n : ℕ) → k + n ≤ length xs → joined (λ j. get_or xs j 0 ∷ []) k n ≡ take n (drop k xs)
-unfolding joined
-joined_bytes xs k zero h = refl
-joined_bytes xs k (suc n) h =
-    ap (λ (x : List ℕ). get_or xs k 0 ∷ x) (joined_bytes xs (suc k) n (omega arith))
-    ∙ sym (ap (take (suc n)) (drop-cons xs k 0 (omega arith)))
-
-pub joined_all : (xs : List ℕ) (n : ℕ) → length xs ≡ n → joined (λ j. get_or xs j 0 ∷ []) 0 n ≡ xs
-joined_all xs n e = joined_bytes xs 0 n (omega arith) ∙ take_all n xs (omega arith)
-
--- ---- the bytes from j to end are moved up by w
-part_length : (end : ℕ) (a : List ℕ) → end ≤ length a → (j : ℕ) → j ≤ end → length (take (end - j) (drop j a)) ≡ end - j
-part_length end a room j h = length-take-le (end - j) (drop j a) (rw (length-drop j a) (omega arith))
-
-pub record Moving (start end w : ℕ) (a₀ : List ℕ) (j : ℕ) (a : List ℕ) : Type 0 where
-  pub above : start ≤ j
-  pub within : j ≤ end
-  pub moved : a ≡ put (j + w) (take (end - j) (drop j a₀)) a₀
-
-module _ {start end w : ℕ} {a₀ : List ℕ} (room : end + w ≤ length a₀) where
-  pub moving_length : {j : ℕ} {a : List ℕ} → Moving start end w a₀ j a → length a ≡ length a₀
-  moving_length {j} m =
-      let h = m.within in
-      ap length m.moved ∙ put_length (j + w) (take (end - j) (drop j a₀)) a₀ (let l = part_length end a₀ (omega arith) j h in omega arith)
-
-  pub moving_none : start ≤ end → Moving start end w a₀ end a₀
-  moving_none h =
-      record {
-        above = h;
-        within = omega arith;
-        moved = let z : end - end ≡ 0 = omega arith in sym (ap (λ (n : ℕ). put (end + w) (take n (drop end a₀)) a₀) z ∙ put_none (end + w) a₀);
-      }
-
-  pub moving_more : (j : ℕ) {a : List ℕ} → Moving start end w a₀ j a → start < j → Moving start end w a₀ (j - 1) (set a (j - 1 + w) (get_or a (j - 1) 0))
-  moving_more zero m h = absurd (omega arith)
-  moving_more (suc i) {a} m h =
-      let k : suc i - 1 ≡ i = omega arith in
-      rw k (go m.within m.moved)
-    where
-      go : suc i ≤ end → a ≡ put (suc i + w) (take (end - suc i) (drop (suc i) a₀)) a₀ → Moving start end w a₀ i (set a (i + w) (get_or a i 0))
-      go o e =
-          let part : List ℕ = take (end - suc i) (drop (suc i) a₀) in
-          let v : ℕ = get_or a₀ i 0 in
-          let l : length part ≡ end - suc i = part_length end a₀ (omega arith) (suc i) o in
-          let n : suc i + w ≡ i + w + 1 = omega arith in
-          let read : get_or a i 0 ≡ v = ap (λ (x : List ℕ). get_or x i 0) e ∙ put_beside (suc i + w) (end - suc i) i part a₀ l (omega arith) (inl (omega arith)) in
-          let long : length (put (suc i + w) part a₀) ≡ length a₀ = put_length (suc i + w) part a₀ (omega arith) in
-          let count : end - i ≡ suc (end - suc i) = omega arith in
-          let bytes : take (end - i) (drop i a₀) ≡ v ∷ part = ap₂ (λ (x : ℕ) (y : List ℕ). take x y) count (drop-cons a₀ i 0 (omega arith)) in
-          record {
-            above = omega arith;
-            within = omega arith;
-            moved =
-                ap₂ (λ (x : List ℕ) (b : ℕ). set x (i + w) b) e read
-                ∙ put_one (i + w) v (put (suc i + w) part a₀) (omega arith)
-                ∙ put_earlier (i + w) (suc i + w) (v ∷ []) part a₀ n (omega arith)
-                ∙ ap (λ (x : List ℕ). put (i + w) x a₀) (sym bytes);
-          }
-
-  pub moving_all : {j : ℕ} {a : List ℕ} → Moving start end w a₀ j a → j ≤ start → a ≡ put (start + w) (take (end - start) (drop start a₀)) a₀
-  moving_all {j} m h = let s = m.above in let e : j ≡ start = omega arith in m.moved ∙ ap (λ (k : ℕ). put (k + w) (take (end - k) (drop k a₀)) a₀) e
+-- ---- the bytes from start to end are moved up by w
+pub copy_within_put : (start end w : ℕ) (a : List ℕ) → start ≤ end → end + w ≤ length a → copy_within a start end (start + w) ≡ put (start + w) (take (end - start) (drop start a)) a
+unfolding put
+copy_within_put start end w a h room =
+    let part : List ℕ = take (end - start) (drop start a) in
+    let l : length part ≡ end - start = length-take-le (end - start) (drop start a) (rw (length-drop start a) (omega arith)) in
+    append_assoc (take (start + w) a) part (drop (start + w + (end - start)) a) ∙ ap (λ (n : ℕ). take (start + w) a ++ (part ++ drop (start + w + n) a)) (sym l)

@@ -2,16 +2,14 @@
 // Each outcome has one row, with the place at which it was met first.
 #![tactic(auto)]
 
-ghost use Rattle.std.specs.Prelude.{◌≡◌, ◌++◌, ◌+◌, ◌-◌, ◌≤◌, length, take, drop, replicate};
-ghost use Rattle.machine.specs.State.{thread_of};
+ghost use Rattle.std.specs.Prelude.{◌≡◌, [], ◌∷◌, ◌++◌, ◌+◌, ◌-◌, ◌≤◌, length, take, drop, replicate};
 ghost use Rattle.step.specs.Outcome.{smaller};
-ghost use Rattle.encode_bytes.specs.Lists.{joined};
 ghost use Rattle.encode_bytes.specs.Places.{put};
 ghost use Rattle.search_outcomes.specs.Table.{ending, row_width, place_bytes, noted, Orderly, Placed};
 ghost use Rattle.search_outcomes.specs.Inner.{values_of, lasts_of, key_at, SameKey, Rising, Smaller};
 
-use encode_bytes::{put_u32, put_u64};
-use machine::{Machine, Memory, Thread};
+use encode_bytes::{Encode, put_bytes, put_each, put_u32, put_u64};
+use machine::{Machine, Memory, Register, Thread};
 
 // The bytes of a row.
 pub fn row_width(wide: bool) -> usize
@@ -21,22 +19,30 @@ pub fn row_width(wide: bool) -> usize
 }
 
 // ---- the outcome of a machine
-fn put_values(o: &mut [u8], at: usize, s: Thread)
-    requires { at + 8 ≤ length o.old }
-    ensures { o.new ≡ put at (values_of s) o.old }
-{
-    for r in 0..8 {
-        let v = s.registers[r];
-        o[at + r] = v.value;
+// Names the bytes that registers and threads have in an outcome: the values.
+struct Values;
+
+impl Encode<Register> for Values {
+    ghost WIDTH = { 1 };
+
+    ghost bytes = { λ r. r.value ∷ [] };
+
+    const WIDTH: usize = 1;
+
+    fn put(area: &mut [u8], at: usize, r: &Register) {
+        put_bytes(area, at, &[r.value]);
     }
 }
 
-fn put_threads(o: &mut [u8], x: Machine)
-    requires { 32 ≤ length o.old }
-    ensures { o.new ≡ put 0 (joined (λ i. values_of (thread_of x i)) 0 4) o.old }
-{
-    for i in 0u8..4 {
-        put_values(o, 8 * i as usize, x.thread_of(i));
+impl Encode<Thread> for Values {
+    ghost WIDTH = { 8 };
+
+    ghost bytes = { values_of };
+
+    const WIDTH: usize = 8;
+
+    fn put(area: &mut [u8], at: usize, s: &Thread) {
+        put_each::<Register, Values, 8>(area, at, &s.registers);
     }
 }
 
@@ -45,9 +51,7 @@ fn put_last(o: &mut [u8], m: Memory)
     requires { (o.old ≡ replicate 48 0) × Placed m }
     ensures { o.new ≡ put 32 (lasts_of m m.count) o.old }
 {
-    let n = m.count as usize;
-    for t in 0..n {
-        let w = m.messages[t];
+    for w in &m.messages[..m.count as usize] {
         o[32 + w.location as usize] = w.value;
     }
 }
@@ -59,7 +63,7 @@ fn outcome(x: Machine) -> [u8; 48]
 {
     let mut o = [0u8; 48];
     put_last(&mut o, x.memory);
-    put_threads(&mut o, x);
+    put_each::<Thread, Values, 4>(&mut o, 0, &x.threads);
     o
 }
 
@@ -69,28 +73,14 @@ fn is_smaller(area: &[u8], at: usize, key: &[u8; 48]) -> bool
     requires { (at + 48 ≤ length area.now) × (length key.now ≡ 48) }
     ensures { result ≡ smaller (key_at at area.now) key.now }
 {
-    for k in 0..48 {
-        let a = area[at + k];
-        let b = key[k];
-        if a != b {
-            return a < b;
-        }
-    }
-    false
+    area[at..at + 48].cmp(&key[..]).is_lt()
 }
 
-// Equal bytes are counted, with no early end: the compiler then takes sixteen at a time.
 fn is_same(area: &[u8], at: usize, key: &[u8; 48]) -> bool
     requires { (at + 48 ≤ length area.now) × (length key.now ≡ 48) }
     ensures { SameKey at area.now key.now result }
 {
-    let mut n = 0u8;
-    for k in 0..48 {
-        if area[at + k] == key[k] {
-            n += 1;
-        }
-    }
-    n == 48
+    area[at..at + 48] == key[..]
 }
 
 // How many of the first n rows are smaller than the key: half of those in question at a time.
@@ -117,27 +107,14 @@ fn move_up(area: &mut [u8], start: usize, end: usize, w: usize)
     requires { (start ≤ end) × (end + w ≤ length area.old) }
     ensures { area.new ≡ put (start + w) (take (end - start) (drop start area.old)) area.old }
 {
-    let mut j = end;
-    while start < j {
-        j -= 1;
-        area[j + w] = area[j];
-    }
-}
-
-fn put_key(area: &mut [u8], at: usize, key: &[u8; 48])
-    requires { (at + 48 ≤ length area.old) × (length key.now ≡ 48) }
-    ensures { area.new ≡ put at key.now area.old }
-{
-    for k in 0..48 {
-        area[at + k] = key[k];
-    }
+    area.copy_within(start..end, start + w);
 }
 
 fn put_row(area: &mut [u8], at: usize, wide: bool, key: &[u8; 48], place: u64)
     requires { (at + row_width wide ≤ length area.old) × (length key.now ≡ 48) }
     ensures { area.new ≡ put at (key.now ++ place_bytes wide place) area.old }
 {
-    put_key(area, at, key);
+    put_bytes(area, at, key);
     if wide {
         put_u64(area, at + 48, place);
     } else {

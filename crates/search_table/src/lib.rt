@@ -3,10 +3,10 @@
 // the old one.
 #![tactic(auto)]
 
-ghost use Rattle.std.specs.Prelude.{true, ◌≡◌, ℕ, ◌+◌, ◌*◌, ◌<◌, ◌≤◌, length, get_or, replicate};
+ghost use Rattle.std.specs.Prelude.{true, ◌≡◌, ℕ, ◌+◌, ◌*◌, ◌<◌, ◌≤◌, length, take, drop, replicate};
 ghost use Rattle.search_table.specs.Table.{slot_with, Sought};
 
-use encode_bytes::{clear_front, put_u64, u64_at};
+use encode_bytes::{put_u64, u64_at};
 use encode_machine::put_machine;
 use machine::Machine;
 
@@ -48,20 +48,12 @@ fn slot_of(key: &[u8; 352], slots: usize) -> usize
     (hash(key) % slots as u64) as usize
 }
 
-// ---- a slot
-// Whether the 341 bytes from the place on are those of the key. Equal bytes are counted, with no early end: the compiler then takes
-// sixteen at a time.
+// Whether the 341 bytes from the place on are those of the key.
 fn same(table: &[u8], at: usize, key: &[u8; 352]) -> bool
     requires { at + 341 ≤ length table.now }
-    ensures { result ≡ true → (k : ℕ) → k < 341 → get_or table.now (at + k) 0 ≡ get_or key.now k 0 }
+    ensures { result ≡ true → take 341 (drop at table.now) ≡ take 341 key.now }
 {
-    let mut n = 0u16;
-    for k in 0..341 {
-        if table[at + k] == key[k] {
-            n += 1;
-        }
-    }
-    n == 341
+    table[at..at + 341] == key[..341]
 }
 
 // ---- the table
@@ -74,17 +66,12 @@ pub fn look_up(table: &[u8], x: Machine) -> Seen
     put_machine(&mut key, 0, x);
     let slot = slot_of(&key, table.len() / SLOT);
     let at = SLOT * slot;
-    if same(table, at, &key) {
-        let count = u64_at(table, at + 341);
-        return Seen {
-            slot: slot,
-            count: count,
-        };
-    }
-    Seen {
-        slot: slot,
-        count: 0,
-    }
+    let count = if same(table, at, &key) {
+        u64_at(table, at + 341)
+    } else {
+        0
+    };
+    Seen { slot, count }
 }
 
 // Whatever stood in the slot is gone.
@@ -105,6 +92,5 @@ pub fn empty() -> [u8; 4194304] {
 pub fn clear(table: &mut [u8])
     ensures { table.new ≡ replicate (length table.old) 0 }
 {
-    let n = table.len();
-    clear_front(table, n);
+    table.fill(0);
 }

@@ -6,6 +6,7 @@ ghost use Rattle.encode_bytes.specs.Places.{put};
 ghost use Rattle.trace_record.specs.Inner.{marked_at, step_at};
 ghost use Rattle.trace_record.specs.Trace.{step_bytes};
 
+use encode_bytes::put_bytes;
 use step::TraceStep;
 
 // Whether the record at a place begins with the mark.
@@ -34,10 +35,5 @@ pub fn put_step(area: &mut [u8], at: usize, k: TraceStep)
     requires { at + 6 ≤ length area.old }
     ensures { area.new ≡ put at (step_bytes k) area.old }
 {
-    area[at] = 0x53;
-    area[at + 1] = 0x54;
-    area[at + 2] = k.kind;
-    area[at + 3] = k.thread;
-    area[at + 4] = k.a;
-    area[at + 5] = k.b;
+    put_bytes(area, at, &[0x53, 0x54, k.kind, k.thread, k.a, k.b]);
 }

@@ -1,18 +1,7 @@
--- `encode_answers::put_entries` meets its contract: the loop writes 16 entries of 2 bytes.
+-- `encode_answers::put_entries` meets its contract: the entries of the array.
 -- Assumes nothing.
-use mathlib.Core.Path.{refl}
-use native.Mathlib.Omega.{arith}
-use Rattle.encode_bytes.proofs.Putting.{putting_none, putting_more, putting_all}
+use Rattle.certify_runs.specs.Values.{no_step}
 use Rattle.encode_answers.proofs.put_entries.Goals as goal
 
-pub loop-k-init : goal.loop-k-init
-loop-k-init c = putting_none (omega arith)
-
-pub loop-k-preserved : goal.loop-k-preserved
-loop-k-preserved c = let l = c.loop-k.invariant in putting_more l c.loop-k-test.true c.put_two.ensures refl (omega arith) (let q = l.same in omega arith)
-
-pub shape_of-area : goal.shape_of-area
-shape_of-area c = c.loop-k.invariant.same
-
 pub returns : goal.returns
-returns c = putting_all c.loop-k.invariant c.loop-k-test.false
+returns c = c.put_each.ensures no_step

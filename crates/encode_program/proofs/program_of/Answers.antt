@@ -5,4 +5,4 @@ use Rattle.encode_program.proofs.program_of.Goals as goal
 
 pub returns : goal.returns
 unfolding program_of
-returns c = rw (c.question_from-question.ensures, c.codes_from-codes.ensures)
+returns c = rw (c.each_from-2.ensures, c.each_from.ensures)

@@ -5,17 +5,17 @@ use Rattle.encode_bytes.proofs.Putting.{put_then}
 use Rattle.search_outcomes.proofs.Rows.{width_least}
 use Rattle.search_outcomes.proofs.put_row.Goals as goal
 
-pub put_key-requires : goal.put_key-requires
-put_key-requires c = let l = width_least c.args.wide in (omega arith, c.requires.1)
+pub put_bytes-requires : goal.put_bytes-requires
+put_bytes-requires c = let l = width_least c.args.wide in let n = c.requires.1 in omega arith
 
 pub put_u64-requires : goal.put_u64-requires
-put_u64-requires c = let l = rw c.if-wide.true at c.requires.0 in let q = c.put_key.auto.area in omega arith
+put_u64-requires c = let l = rw c.if-wide.true at c.requires.0 in let q = c.put_bytes.auto.area in omega arith
 
 pub put_u32-requires : goal.put_u32-requires
-put_u32-requires c = let l = rw c.if-wide.false at c.requires.0 in let q = c.put_key.auto.area in omega arith
+put_u32-requires c = let l = rw c.if-wide.false at c.requires.0 in let q = c.put_bytes.auto.area in omega arith
 
 pub returns-then-wide : goal.returns-then-wide
-returns-then-wide c = rw c.if-wide.true (put_then _ _ _ _ _ c.put_key.ensures c.put_u64.ensures (let e = c.requires.1 in omega arith) (omega arith))
+returns-then-wide c = rw c.if-wide.true (put_then _ _ _ _ _ c.put_bytes.ensures c.put_u64.ensures (let e = c.requires.1 in omega arith) (omega arith))
 
 pub returns-else-wide : goal.returns-else-wide
-returns-else-wide c = rw c.if-wide.false (put_then _ _ _ _ _ c.put_key.ensures c.put_u32.ensures (let e = c.requires.1 in omega arith) (omega arith))
+returns-else-wide c = rw c.if-wide.false (put_then _ _ _ _ _ c.put_bytes.ensures c.put_u32.ensures (let e = c.requires.1 in omega arith) (omega arith))
