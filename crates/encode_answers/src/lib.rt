@@ -8,7 +8,7 @@ ghost use Rattle.encode_numbers.specs.Cases.{search_steps};
 ghost use Rattle.encode_answers.specs.Value.{read_bytes, stepped_bytes, entry_bytes, entries_bytes, shown_bytes, certified_bytes, replayed_bytes, found_bytes, searched_bytes, within_bytes, listing_bytes, listed_bytes, listed_within_bytes};
 
 use certify_runs::{Run, RunStep};
-use encode_bytes::{Encode, put_bytes, put_each, put_four, put_one, put_u32, put_u64};
+use encode_bytes::{Encode, put_bytes, put_each, put_u32, put_u64};
 use encode_machine::put_machine;
 use encode_numbers::{
     listing_byte, listing_count, listing_refusal, outcomes_number, refused_number, refused_place,
@@ -27,7 +27,7 @@ pub fn put_read(area: &mut [u8], r: Result<Program, Refused>)
     requires { 495 ≤ length area.old }
     ensures { area.new ≡ put 0 (read_bytes r) area.old }
 {
-    put_four(area, 0, refused_number(&r), 0, 0, 0);
+    put_bytes(area, 0, &[refused_number(&r), 0, 0, 0]);
     put_u32(area, 4, refused_place(&r));
     match r {
         Ok(p) => put_program(area, 8, p),
@@ -42,11 +42,11 @@ pub fn put_stepped(area: &mut [u8], x: Machine, r: Result<Machine, Refusal>)
 {
     match r {
         Ok(y) => {
-            put_one(area, 0, 0);
+            put_bytes(area, 0, &[0]);
             put_machine(area, 1, y);
         }
         Err(refusal) => {
-            put_one(area, 0, refusal.number());
+            put_bytes(area, 0, &[refusal.number()]);
             put_machine(area, 1, x);
         }
     }
@@ -88,7 +88,7 @@ fn put_shown(area: &mut [u8], refusal: u8, certified: u8, run: Run)
     requires { 36 ≤ length area.old }
     ensures { area.new ≡ put 0 (shown_bytes refusal certified run) area.old }
 {
-    put_four(area, 0, refusal, certified, run.count, 0);
+    put_bytes(area, 0, &[refusal, certified, run.count, 0]);
     put_entries(area, 4, run);
 }
 
@@ -108,14 +108,13 @@ pub fn put_replayed(area: &mut [u8], r: Replayed)
     ensures { area.new ≡ put 0 (replayed_bytes r) area.old }
 {
     let a = r.answer;
-    put_four(
-        area,
-        0,
+    let front = [
         replay_refusal(a),
         replay_file(a),
         yes_byte(r.complete),
         yes_byte(r.holds),
-    );
+    ];
+    put_bytes(area, 0, &front);
     put_u32(area, 4, r.steps);
     put_u32(area, 8, replay_index(a));
     put_u32(area, 12, replay_place(a));
@@ -127,14 +126,13 @@ fn put_found(area: &mut [u8], r: Result<Answer, Refused>)
     requires { (8 ≤ length area.old) × (search_steps r ≤ 80) }
     ensures { area.new ≡ put 0 (found_bytes r) area.old }
 {
-    put_four(
-        area,
-        0,
+    let front = [
         verdict_byte(r),
         refused_number(&r),
         search_steps(r) as u8,
         0,
-    );
+    ];
+    put_bytes(area, 0, &front);
     put_u32(area, 4, refused_place(&r));
 }
 
@@ -160,7 +158,7 @@ fn put_listing(area: &mut [u8], r: Result<Listed, Refused>)
     requires { 8 ≤ length area.old }
     ensures { area.new ≡ put 0 (listing_bytes r) area.old }
 {
-    put_four(area, 0, listing_byte(r), listing_refusal(r), 0, 0);
+    put_bytes(area, 0, &[listing_byte(r), listing_refusal(r), 0, 0]);
     put_u32(area, 4, refused_place(&r));
 }
 

@@ -1,29 +1,20 @@
--- A list with some bytes replaced: one byte, a run, one run after the other, and entry after entry.
+-- A list with some bytes replaced: one run after the other, and entry after entry.
 -- Assumes nothing.
 use mathlib.Core.Path.{◌≡◌, sym, ap, ap₂, subst, ◌∙◌}
-use mathlib.Core.List.{List, [], ◌∷◌, ◌++◌, append_assoc}
+use mathlib.Core.List.{List, [], ◌++◌, append_assoc}
 use mathlib.Core.Logic.{◌⊎◌, inl, inr}
 use Prim.Native.Nat.{ℕ, suc, ◌+◌, ◌*◌, ◌-◌, ◌≤◌, ◌<◌}
 use native.Mathlib.Nat.{mul-suc, mul-le-mul_left}
 use native.Mathlib.Omega.{arith}
-use lib.ListN.{length, get_or, take, drop, set, length-append, length-take, length-drop, take-append-drop, get_or-append}
+use lib.ListN.{length, get_or, take, drop, length-append, length-take, length-drop, take-append-drop, get_or-append}
 use borrow.Rule.Slice.PartMut.{put_mid}
-use lib.Seq.{sets, sets-eq, set_split, length-take-le, take_at, drop_at, drop-drop, get_or-take, get_or-drop, get_or-append-add}
+use lib.Seq.{length-take-le, take_at, drop_at, drop-drop, get_or-take, get_or-drop, get_or-append-add}
 use Rattle.encode_bytes.specs.Lists.{joined}
 use Rattle.encode_bytes.specs.Places.{put}
 
 pub put_none : (i : ℕ) (a : List ℕ) → put i [] a ≡ a
 unfolding put
 put_none i a = let e : i + 0 ≡ i = omega arith in ap (λ (k : ℕ). take i a ++ drop k a) e ∙ take-append-drop i a
-
-pub put_one : (i v : ℕ) (a : List ℕ) → i < length a → set a i v ≡ put i (v ∷ []) a
-unfolding put
-put_one i v a h = let e : suc i ≡ i + 1 = omega arith in set_split a i v h ∙ ap (λ (k : ℕ). take i a ++ (v ∷ drop k a)) e
-
--- what straight-line stores leave
-pub put_run : (bs a : List ℕ) (i : ℕ) → i + length bs ≤ length a → sets a i bs ≡ put i bs a
-unfolding put
-put_run bs a i h = sets-eq bs a i h ∙ append_assoc (take i a) bs (drop (i + length bs) a)
 
 pub put_length : (i : ℕ) (bs a : List ℕ) → i + length bs ≤ length a → length (put i bs a) ≡ length a
 unfolding put
@@ -82,14 +73,15 @@ put_part i k bs ys a e l = ap₂ (λ (y z : List ℕ). take i a ++ (y ++ z)) e (
 
 -- ---- n entries, one after the other, of which k are written: the next goes to place j
 module _ (f : ℕ → List ℕ) (n : ℕ) where
-  pub entry_put : {k j k' j' : ℕ} (a : List ℕ) {a' : List ℕ} → k < n → a' ≡ put j (f k) a → k' ≡ k + 1 → j' ≡ j + length (f k) → j ≤ length a → put j' (joined f k' (n - k')) a' ≡ put j (joined f k (n - k)) a
+  pub entry_put : {k j k' j' : ℕ} (a : List ℕ) {a' all : List ℕ} → k < n → a' ≡ put j (f k) a → k' ≡ k + 1 → j' ≡ j + length (f k) → j ≤ length a → put j (joined f k (n - k)) a ≡ all → put j' (joined f k' (n - k')) a' ≡ all
   unfolding joined
-  entry_put {k} {j} {k'} {j'} a {a'} h e ek ej l =
+  entry_put {k} {j} {k'} {j'} a {a'} {all} h e ek ej l rest =
       let z : n - k ≡ suc (n - k') = omega arith in
       let y : k' ≡ suc k = omega arith in
       ap₂ (λ (x : ℕ) (b : List ℕ). put j' (joined f x (n - k')) b) y e
       ∙ put_more j j' (f k) (joined f (suc k) (n - k')) a ej l
       ∙ sym (ap (λ (x : ℕ). put j (joined f k x) a) z)
+      ∙ rest
 
   pub none_put : (j : ℕ) (a : List ℕ) → put j (joined f 0 (n - 0)) a ≡ put j (joined f 0 n) a
   none_put j a = let z : n - 0 ≡ n = omega arith in ap (λ (m : ℕ). put j (joined f 0 m) a) z

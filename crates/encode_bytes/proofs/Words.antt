@@ -1,41 +1,26 @@
--- Numbers of four and of eight bytes: what is read back is the low 32 or 64 bits.
+-- Numbers of eight bytes: they are std's, so what is read back is the number.
 -- Assumes nothing.
 use mathlib.Core.Path.{◌≡◌, sym, ap, ap₂, ◌∙◌}
-use mathlib.Core.List.{List}
-use Prim.Native.Nat.{ℕ, ◌+◌, ◌*◌, ◌/◌, ◌%◌, ◌<◌}
+use mathlib.Core.List.{List, [], ◌∷◌}
+use Prim.Native.Nat.{ℕ, ◌+◌, ◌*◌, ◌<◌}
 use native.Mathlib.Omega.{arith}
 use lib.ListN.{get_or, drop}
 use lib.Seq.{get_or-drop}
-use Rattle.encode_bytes.specs.Numbers.{word32, word64}
+use Rattle.std.proofs.Common.{rules, w64}
+use Rattle.std.proofs.lemmas.Grind.{common_steps}
+use Rattle.std.specs.Int.{to_le_bytes, from_le_bytes}
+use Rattle.std.proofs.lemmas.Nat.{from_le_bytes-to_le_bytes_8}
+use Rattle.encode_bytes.specs.Numbers.{word64}
 use Rattle.encode_bytes.specs.Inner.{word32_from, word64_from}
 
-two : (n : ℕ) → n % 65536 ≡ n % 256 + 256 * (n / 256 % 256)
-two n = omega arith
+std_bytes : (n : ℕ) → to_le_bytes w64 n ≡ word64 n
+std_bytes n = search (rules, common_steps, arith)
 
-four : (n : ℕ) → n % 4294967296 ≡ n % 65536 + 65536 * (n / 65536 % 65536)
-four n = omega arith
+std_number : (a b c d e f g h : ℕ) → let l : List ℕ = a ∷ b ∷ c ∷ d ∷ e ∷ f ∷ g ∷ h ∷ [] in word64_from l ≡ from_le_bytes w64 l
+std_number a b c d e f g h = omega arith
 
-high : (n : ℕ) → n / 16777216 ≡ n / 65536 / 256
-high n = omega arith
-
-pub word32_back : (n : ℕ) → word32_from (word32 n) ≡ n % 4294967296
-word32_back n =
-    let a = two n in
-    let b = two (n / 65536) in
-    let c = four n in
-    rw (high n) (go (n % 256) (n / 256 % 256) (n / 65536 % 256) (n / 65536 / 256 % 256) (n % 65536) (n / 65536 % 65536) (n % 4294967296) a b c)
-  where
-    go : (x y z u p q m : ℕ) → p ≡ x + 256 * y → q ≡ z + 256 * u → m ≡ p + 65536 * q → x + 256 * y + 65536 * z + 16777216 * u ≡ m
-    go x y z u p q m a b c = omega arith
-
--- ---- eight bytes
 pub word64_back : (n : ℕ) → n < 18446744073709551616 → word64_from (word64 n) ≡ n
-word64_back n h =
-    let a = word32_back n in
-    let b = word32_back (n / 4294967296) in
-    let c : n / 4294967296 % 4294967296 ≡ n / 4294967296 = omega arith in
-    let d : n % 4294967296 + 4294967296 * (n / 4294967296) ≡ n = omega arith in
-    omega arith
+word64_back n h = ap word64_from (sym (std_bytes n)) ∙ std_number _ _ _ _ _ _ _ _ ∙ from_le_bytes-to_le_bytes_8 n h
 
 -- bytes that agree are one number
 same_word32 : (a b : List ℕ) → ((i : ℕ) → i < 4 → get_or a i 0 ≡ get_or b i 0) → word32_from a ≡ word32_from b

@@ -2,7 +2,7 @@
 // and machines are made of.
 #![tactic(auto)]
 
-ghost use Rattle.std.specs.Prelude.{◌≡◌, List, [], ◌∷◌, ℕ, ◌+◌, ◌*◌, ◌≤◌, length, get_or, drop, replicate};
+ghost use Rattle.std.specs.Prelude.{◌≡◌, List, ℕ, ◌+◌, ◌*◌, ◌≤◌, length, get_or, drop, replicate};
 ghost use Rattle.encode_bytes.specs.Inner.{word64_from};
 ghost use Rattle.encode_bytes.specs.Lists.{joined, entries};
 ghost use Rattle.encode_bytes.specs.Places.{put};
@@ -15,27 +15,6 @@ pub fn put_bytes(area: &mut [u8], at: usize, bytes: &[u8])
     ensures { area.new ≡ put at bytes.now area.old }
 {
     area[at..at + bytes.len()].copy_from_slice(bytes);
-}
-
-pub fn put_one(area: &mut [u8], at: usize, a: u8)
-    requires { at + 1 ≤ length area.old }
-    ensures { area.new ≡ put at (a ∷ []) area.old }
-{
-    put_bytes(area, at, &[a]);
-}
-
-pub fn put_two(area: &mut [u8], at: usize, a: u8, b: u8)
-    requires { at + 2 ≤ length area.old }
-    ensures { area.new ≡ put at (a ∷ b ∷ []) area.old }
-{
-    put_bytes(area, at, &[a, b]);
-}
-
-pub fn put_four(area: &mut [u8], at: usize, a: u8, b: u8, c: u8, d: u8)
-    requires { at + 4 ≤ length area.old }
-    ensures { area.new ≡ put at (a ∷ b ∷ c ∷ d ∷ []) area.old }
-{
-    put_bytes(area, at, &[a, b, c, d]);
 }
 
 // Low byte first.

@@ -8,4 +8,4 @@ use Rattle.encode_answers.proofs.put_found.Goals as goal
 pub returns : goal.returns
 unfolding found_bytes
 returns c =
-    put_then _ _ _ _ _ (rw (c.search_steps.ensures, c.refused_number.ensures, c.verdict_byte.ensures) at c.put_four.ensures) (rw c.refused_place.ensures at c.put_u32.ensures) (omega arith) (omega arith)
+    put_then _ _ _ _ _ (rw (c.search_steps.ensures, c.refused_number.ensures, c.verdict_byte.ensures) at c.put_bytes.ensures) (rw c.refused_place.ensures at c.put_u32.ensures) (omega arith) (omega arith)

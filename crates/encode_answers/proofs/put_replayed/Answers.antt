@@ -9,7 +9,7 @@ pub returns : goal.returns
 unfolding replayed_bytes
 returns c =
     put_then _ _ _ _ _
-    (rw (c.yes_byte-2.ensures, c.yes_byte.ensures, c.replay_file.ensures, c.replay_refusal.ensures) at c.put_four.ensures)
+    (rw (c.yes_byte-2.ensures, c.yes_byte.ensures, c.replay_file.ensures, c.replay_refusal.ensures) at c.put_bytes.ensures)
     (put_then _ _ _ _ _ c.put_u32.ensures
     (put_then _ _ _ _ _ (rw c.replay_index.ensures at c.put_u32-2.ensures)
     (put_then _ _ _ _ _ (rw c.replay_place.ensures at c.put_u32-3.ensures)

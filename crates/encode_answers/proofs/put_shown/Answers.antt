@@ -7,4 +7,4 @@ use Rattle.encode_answers.proofs.put_shown.Goals as goal
 
 pub returns : goal.returns
 unfolding shown_bytes
-returns c = put_then _ _ _ _ _ c.put_four.ensures c.put_entries.ensures (omega arith) (omega arith)
+returns c = put_then _ _ _ _ _ c.put_bytes.ensures c.put_entries.ensures (omega arith) (omega arith)

@@ -38,7 +38,7 @@ loop-x-preserved g c =
           entry_put _ g.row.N c.loop-x.area c.loop-x-test.true (c.put.ensures.written ∙ ap (λ x. put c.loop-x.to (g.F.Encode.bytes x) c.loop-x.area) same) refl
           (omega (arith, c.put.ensures.wide, ap (λ x. length (g.F.Encode.bytes x)) same))
           (omega (arith, within_place g.F.Encode.WIDTH g.row.N c.loop-x.x-index c.loop-x-test.true))
-          ∙ c.loop-x.invariant.rest d;
+          (c.loop-x.invariant.rest d);
     }
 
 pub returns : goal.returns
