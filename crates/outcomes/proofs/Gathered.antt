@@ -2,7 +2,7 @@
 -- Assumes nothing.
 use mathlib.Core.Path.{◌≡◌, refl, ap, subst, ◌∙◌}
 use mathlib.Core.Bool.{Bool, true, false, cond}
-use mathlib.Core.List.{List, [], ◌∷◌}
+use mathlib.Core.List.{List, []}
 use mathlib.Core.Option.{Option, none, some}
 use Prim.Native.Nat.{ℕ, suc, ◌+◌, ◌-◌, ◌≤◌, ◌<◌}
 use native.Mathlib.Decide.{dec_lt}
@@ -20,7 +20,7 @@ use Rattle.step.specs.Step.{Step}
 use Rattle.step.specs.Outcome.{complete, outcome, smaller}
 use Rattle.step.proofs.Bound.{potential_fresh}
 use Rattle.search_sequences.specs.OfProgram.{stepping, sequences_of, ending_of, listing_to}
-use Rattle.search_outcomes.specs.Table.{Notes, noted, entry_smaller}
+use Rattle.search_outcomes.specs.Table.{Notes, noted, fresh_sheet, entry_smaller}
 use Rattle.search_outcomes.proofs.Holding.{Holds, holds_none, holds_noted}
 use Rattle.search_arrivals.specs.declared.Aim.TheVariants.{Outcomes}
 use Rattle.search_arrivals.specs.Visits.{acts, visiting}
@@ -66,9 +66,9 @@ module _ (p : Program) (wide : Bool) (start : List ℕ) (b : ℕ) where
       go none = (n, refl, h)
       go (some x) = at_machine x (complete p x)
 
-  through_all : visiting p (Outcomes wide) fresh b (start, 0 ∷ b ∷ []) ≡ scan (done_at (stepping p) (acts p (Outcomes wide)) fresh) (sequences_of p) b (start, 0 ∷ b ∷ [])
+  through_all : visiting p (Outcomes wide) fresh b (start, fresh_sheet b) ≡ scan (done_at (stepping p) (acts p (Outcomes wide)) fresh) (sequences_of p) b (start, fresh_sheet b)
   unfolding visiting sequences_of
-  through_all = ap (λ (m : ℕ). scan (done_at (stepping p) (acts p (Outcomes wide)) fresh) (upto (stepping p) m fresh) b (start, 0 ∷ b ∷ [])) (potential_fresh p)
+  through_all = ap (λ (m : ℕ). scan (done_at (stepping p) (acts p (Outcomes wide)) fresh) (upto (stepping p) m fresh) b (start, fresh_sheet b)) (potential_fresh p)
 
   -- how such a visit ends
   pub data Ends (o : Scan Step Notes) : Type 0 where
@@ -77,13 +77,13 @@ module _ (p : Program) (wide : Bool) (start : List ℕ) (b : ℕ) where
     -- it does not
     spent : (n : Notes) → o ≡ out n → b < length (sequences_of p) → Ends o
 
-  pub visit_ends : Ends (visiting p (Outcomes wide) fresh b (start, 0 ∷ b ∷ []))
+  pub visit_ends : Ends (visiting p (Outcomes wide) fresh b (start, fresh_sheet b))
   visit_ends =
       elim (dec_lt b (length (sequences_of p))) [
-        | yes h ↦ let r = runs_out smaller (ending_of p) (Holds wide start b) b (done_at (stepping p) (acts p (Outcomes wide)) fresh) noting (sequences_of p) 0 b (omega arith) h [] (start, 0 ∷ b ∷ []) (holds_none wide start b) in
+        | yes h ↦ let r = runs_out smaller (ending_of p) (Holds wide start b) b (done_at (stepping p) (acts p (Outcomes wide)) fresh) noting (sequences_of p) 0 b (omega arith) h [] (start, fresh_sheet b) (holds_none wide start b) in
             spent r.0 (through_all ∙ r.1) h
         | no h ↦
             let fits : length (sequences_of p) ≤ b = omega arith in
-            let r = gathers smaller (ending_of p) (Holds wide start b) b (done_at (stepping p) (acts p (Outcomes wide)) fresh) noting (sequences_of p) 0 b (omega arith) fits [] (start, 0 ∷ b ∷ []) (holds_none wide start b) in
+            let r = gathers smaller (ending_of p) (Holds wide start b) b (done_at (stepping p) (acts p (Outcomes wide)) fresh) noting (sequences_of p) 0 b (omega arith) fits [] (start, fresh_sheet b) (holds_none wide start b) in
             went r.0 (through_all ∙ r.1) fits r.2
       ]

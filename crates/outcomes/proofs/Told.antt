@@ -2,7 +2,7 @@
 -- Assumes nothing.
 use mathlib.Core.Path.{◌≡◌, refl, sym, ap, subst, ◌∙◌}
 use mathlib.Core.Bool.{Bool, true}
-use mathlib.Core.List.{List, [], ◌∷◌}
+use mathlib.Core.List.{List}
 use Prim.Native.Nat.{ℕ, ◌-◌, ◌*◌, ◌/◌, ◌≤◌, ◌<◌}
 use native.Mathlib.Decide.{dec_lt}
 use native.Mathlib.Omega.{arith}
@@ -23,7 +23,7 @@ use Rattle.step.specs.Step.{Step}
 use Rattle.program.proofs.Answered.{read_good, read_refused}
 use Rattle.program.specs.declared.Refused.{Refused}
 use Rattle.search_sequences.specs.OfProgram.{sequences_of, listing_to}
-use Rattle.search_outcomes.specs.Table.{row_width, capacity, Notes, met_of}
+use Rattle.search_outcomes.specs.Table.{row_width, capacity, Notes, met_of, fresh_sheet}
 use Rattle.search_outcomes.proofs.Holding.{Holds, holds_none, holds_orderly}
 use Rattle.search_outcomes.proofs.Cases.{capacity_room}
 use Rattle.search_outcomes.proofs.Tail.{Tail, tail_emptied, tail_noted, tail_cleared}
@@ -42,23 +42,23 @@ use Rattle.outcomes.proofs.Gathered.{all_entries, listing_finished, listing_unfi
 pub rows_within : (wide : Bool) (t : List ℕ) (w : ℕ) → w ≡ row_width wide → w * (length t / w) ≤ length t
 rows_within wide t w e = rw e (capacity_room wide (capacity wide t) t (omega arith))
 
-pub ready_to_list : (p : Program) (wide : Bool) (t : List ℕ) (b : ℕ) → T (program_test p) → Visitable p (Outcomes wide) fresh 0 (t, 0 ∷ b ∷ [])
-ready_to_list p wide t b h = ready_fresh p (Outcomes wide) (t, 0 ∷ b ∷ []) h refl (λ e. absurd (eqb-false 0 1 refl cc)) (λ narrow e. holds_orderly (holds_none narrow t b) tt)
+pub ready_to_list : (p : Program) (wide : Bool) (t : List ℕ) (b : ℕ) → T (program_test p) → Visitable p (Outcomes wide) fresh 0 (t, fresh_sheet b)
+ready_to_list p wide t b h = ready_fresh p (Outcomes wide) (t, fresh_sheet b) h (λ e. absurd (eqb-false 0 1 refl cc)) (λ narrow e. holds_orderly (holds_none narrow t b) tt)
 
 -- what the visit of a fresh machine reports, where the rows of the table were cleared by their width before
 pub reported : (p : Program) (wide : Bool) (b : ℕ) (t : List ℕ) {x : Machine} {w : ℕ} {start : List ℕ} {r : Ran} {after : Notes} → x ≡ fresh → w ≡ row_width wide → start ≡ put 0 (replicate (w * (length t / w)) 0) t
-    → Reports 0 (visiting p (Outcomes wide) x b (start, 0 ∷ b ∷ [])) r after → Reports 0 (visiting p (Outcomes wide) fresh b (emptied wide t, 0 ∷ b ∷ [])) r after
+    → Reports 0 (visiting p (Outcomes wide) x b (start, fresh_sheet b)) r after → Reports 0 (visiting p (Outcomes wide) fresh b (emptied wide t, fresh_sheet b)) r after
 reported p wide b t {x} {w} {start} {r} {after} is-fresh width cleared told =
     let s : start ≡ emptied wide t = cleared ∙ ap (λ (k : ℕ). put 0 (replicate (k * (length t / k)) 0) t) width in
-    subst (λ (y : Machine). Reports 0 (visiting p (Outcomes wide) y b (emptied wide t, 0 ∷ b ∷ [])) r after) is-fresh
-    (subst (λ (a : List ℕ). Reports 0 (visiting p (Outcomes wide) x b (a, 0 ∷ b ∷ [])) r after) s told)
+    subst (λ (y : Machine). Reports 0 (visiting p (Outcomes wide) y b (emptied wide t, fresh_sheet b)) r after) is-fresh
+    (subst (λ (a : List ℕ). Reports 0 (visiting p (Outcomes wide) x b (a, fresh_sheet b)) r after) s told)
 
 -- ---- after the visit
 module _ (p : Program) (wide : Bool) (b : ℕ) (t : List ℕ) (r : Ran) (after : Notes)
-    (told : Reports 0 (visiting p (Outcomes wide) fresh b (emptied wide t, 0 ∷ b ∷ [])) r after)
+    (told : Reports 0 (visiting p (Outcomes wide) fresh b (emptied wide t, fresh_sheet b)) r after)
   where
     abbrev whole : Scan Step Notes
-    whole = visiting p (Outcomes wide) fresh b (emptied wide t, 0 ∷ b ∷ [])
+    whole = visiting p (Outcomes wide) fresh b (emptied wide t, fresh_sheet b)
 
     capacity_same : capacity wide (emptied wide t) ≡ capacity wide t
     capacity_same = ap (λ (l : ℕ). l / row_width wide) (tail_emptied wide t).as_long
@@ -94,7 +94,7 @@ module _ (p : Program) (wide : Bool) (b : ℕ) (t : List ℕ) (r : Ran) (after :
         noted_tail : Tail wide t (noted_of whole).0
         noted_tail =
             visiting_keeps (λ n. Tail wide t n.0) p (Outcomes wide)
-            (λ v e o c n k i. let same : wide ≡ v = cc in rw (← same) (tail_noted wide t o c n k i)) fresh b (emptied wide t, 0 ∷ b ∷ []) (tail_emptied wide t)
+            (λ v e o c n k i. let same : wide ≡ v = cc in rw (← same) (tail_noted wide t o c n k i)) fresh b (emptied wide t, fresh_sheet b) (tail_emptied wide t)
 
         by : Ends p wide (emptied wide t) b whole → Tail wide t after.0
         by (went n q fits h) = let same : after ≡ noted_of whole = told.lent ∙ rw q in subst (λ (m : Notes). Tail wide t m.0) (sym same) noted_tail

@@ -11,7 +11,7 @@ use file_reader::read;
 use machine::machines::fresh;
 use program::{Program, Refused};
 use search_arrivals::{Aim, Ran};
-use search_outcomes::row_width;
+use search_outcomes::{Sheet, row_width};
 use search_table::clear;
 use search_visits::visit;
 
@@ -57,7 +57,7 @@ fn list_program(
     let room = table.len() / w;
     clear_front(table, w * room);
     clear(machines);
-    let mut sheet = [0u64, budget];
+    let mut sheet = Sheet { met: 0, budget };
     let ran = visit(
         p,
         fresh(),
@@ -70,7 +70,7 @@ fn list_program(
     );
     clear(machines);
     if let Ran::Going(rest) = ran {
-        let met = sheet[0];
+        let met = sheet.met;
         if met <= room as u64 {
             return Answer {
                 verdict: Verdict::Finished,

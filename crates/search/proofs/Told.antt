@@ -31,6 +31,7 @@ use Rattle.search_arrivals.specs.declared.Ran.TheVariants.{Going, Found, Out}
 use Rattle.search_arrivals.specs.declared.Aim.TheVariants.{Question}
 use Rattle.search_arrivals.specs.Visits.{acts, visiting, Reports}
 use Rattle.search_arrivals.proofs.Acting.{visiting_same}
+use Rattle.search_outcomes.specs.declared.Sheet.{Sheet}
 use Rattle.search_outcomes.specs.Table.{Notes}
 use Rattle.step.specs.Outcome.{asked}
 use Rattle.trace_record.proofs.Writing.{trace_length}
@@ -47,7 +48,7 @@ put_first : (q : List Step) (a : List ℕ) → put 0 (trace_bytes q) a ≡ trace
 unfolding put
 put_first q a = let w = trace_length q in let e : 0 + length (trace_bytes q) ≡ 6 * length q = omega arith in ap (λ (n : ℕ). trace_bytes q ++ drop n a) e
 
-module _ (p : Program) (b : ℕ) (r : Ran) (old sheet new sheet' : List ℕ) (t : Reports 0 (visiting p Question fresh b (old, sheet)) r (new, sheet')) where
+module _ (p : Program) (b : ℕ) (r : Ran) (old new : List ℕ) (sheet sheet' : Sheet) (t : Reports 0 (visiting p Question fresh b (old, sheet)) r (new, sheet')) where
   -- the answer, by the one that the visit gave
   ended : Ran → Answer
   ended (Going c) = record { verdict = Forbidden; count = b - c; steps = 0 }

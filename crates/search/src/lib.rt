@@ -10,6 +10,7 @@ use file_reader::read;
 use machine::machines::fresh;
 use program::{Program, Refusal, Refused};
 use search_arrivals::{Aim, Ran};
+use search_outcomes::Sheet;
 use search_table::clear;
 use search_visits::visit;
 
@@ -34,7 +35,7 @@ fn search_program(p: Program, budget: u64, area: &mut [u8], table: &mut [u8]) ->
     ensures { AnswersOn p budget result area.old area.new × (table.new ≡ cleared table.old) }
 {
     clear(table);
-    let mut sheet = [0u64; 2];
+    let mut sheet = Sheet { met: 0, budget: 0 };
     let ran = visit(
         p,
         fresh(),

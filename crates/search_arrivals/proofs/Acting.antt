@@ -4,8 +4,7 @@ use mathlib.Core.Path.{◌≡◌, refl, sym, ap, subst, ◌∙◌}
 use mathlib.Core.Bool.{Bool, true, false, cond}
 use mathlib.Core.List.{List, [], ◌++◌, map}
 use mathlib.Core.Option.{Option, none, some, some-injective}
-use Prim.Native.Nat.{ℕ, ◌<◌}
-use native.Mathlib.Omega.{arith}
+use Prim.Native.Nat.{ℕ}
 use borrow.Author.Tests.{eqb-false}
 use lib.Dec.{ltb}
 use lib.ListN.{length, get_or, replicate, length-append}
@@ -21,7 +20,7 @@ use Rattle.step.specs.Order.{range, for_each}
 use Rattle.step.specs.Outcome.{complete, register_values, outcome, asked}
 use Rattle.search_sequences.specs.OfProgram.{stepping}
 use Rattle.search_outcomes.specs.Table.{Notes, noted, Orderly}
-use Rattle.search_outcomes.proofs.Laws.{noted_long, noted_two, noted_orderly, noted_settles, noted_stays}
+use Rattle.search_outcomes.proofs.Laws.{noted_long, noted_orderly, noted_settles, noted_stays}
 use Rattle.search_arrivals.specs.Visits.{Aim, Question, Outcomes, acts, visiting}
 
 registers_length : (p : Program) (x : Machine) (i : ℕ) → length (register_values p x i) ≡ 8
@@ -79,9 +78,6 @@ module _ (I : Notes → Type 0) (p : Program) (a : Aim) (keeps : (wide : Bool) �
 pub visiting_long : (p : Program) (a : Aim) (x : Machine) (b : ℕ) (n : Notes) → length (noted_of (visiting p a x b n)).0 ≡ length n.0
 visiting_long p a x b n = visiting_keeps (λ m. length m.0 ≡ length n.0) p a (λ wide e o c m k i. noted_long wide o c m k ∙ i) x b n refl
 
-pub visiting_two : (p : Program) (a : Aim) (x : Machine) (b : ℕ) (n : Notes) → length (noted_of (visiting p a x b n)).1 ≡ length n.1
-visiting_two p a x b n = visiting_keeps (λ m. length m.1 ≡ length n.1) p a (λ wide e o c m k i. noted_two wide o c m ∙ i) x b n refl
-
 pub visiting_orderly : (p : Program) (a : Aim) (x : Machine) (b : ℕ) (n : Notes) → ((wide : Bool) → a ≡ Outcomes wide → Orderly wide n) → (wide : Bool) → a ≡ Outcomes wide → Orderly wide (noted_of (visiting p a x b n))
 visiting_orderly p a x b n h wide e = visiting_keeps (λ m. Orderly wide m) p a (λ w f o c m k i. let same : w ≡ wide = cc in subst (λ (v : Bool). Orderly wide (noted v o c m)) (sym same) (noted_orderly wide o c m k i)) x b n (h wide e)
 
@@ -106,17 +102,17 @@ found_question p a x b c n m q e = go (run (stepping p) x q) (scan_found (done_a
     go none d = absurd (eqb-false 0 1 refl cc)
     go (some y) d = never_ends p a y c m d
 
--- ---- nothing new is met a second time, where there is a sheet
-abbrev pub HasSheet : Notes → Type 0
-HasSheet n = 0 < length n.1
+-- ---- nothing new is met a second time, whatever is noted
+abbrev pub Any : Notes → Type 0
+Any n = Unit {0}
 
-question_settling : (p : Program) → Settling (stepping p) (acts p Question) HasSheet
-question_settling p = record { fits = acts_keep HasSheet p Question (λ wide e. absurd (never e)); settles = settles; stays = stays }
+question_settling : (p : Program) → Settling (stepping p) (acts p Question) Any
+question_settling p = record { fits = acts_keep Any p Question (λ wide e. absurd (never e)); settles = settles; stays = stays }
   where
-    settles : (x : Machine) (b : ℕ) (n m : Notes) → HasSheet n → acts p Question x b n ≡ some m → Settled (stepping p) (acts p Question) m x
+    settles : (x : Machine) (b : ℕ) (n m : Notes) → Any n → acts p Question x b n ≡ some m → Settled (stepping p) (acts p Question) m x
     settles x b n m f e c = asked_past p x c m (question_same p x b n m e).1
 
-    stays : (x y : Machine) (b : ℕ) (n m : Notes) → HasSheet n → Settled (stepping p) (acts p Question) n x → acts p Question y b n ≡ some m → Settled (stepping p) (acts p Question) m x
+    stays : (x y : Machine) (b : ℕ) (n m : Notes) → Any n → Settled (stepping p) (acts p Question) n x → acts p Question y b n ≡ some m → Settled (stepping p) (acts p Question) m x
     stays x y b n m f h e = subst (λ (k : Notes). Settled (stepping p) (acts p Question) k x) (sym (question_same p y b n m e).0) h
 
 module _ (p : Program) (wide : Bool) where
@@ -124,29 +120,29 @@ module _ (p : Program) (wide : Bool) where
   noting : Bool → Machine → ℕ → Notes → Notes
   noting t x b n = cond t (noted wide (outcome p x) b n) n
 
-  notes_settle : (t : Bool) (x : Machine) (b c : ℕ) (n : Notes) → HasSheet n → noting t x c (noting t x b n) ≡ noting t x b n
+  notes_settle : (t : Bool) (x : Machine) (b c : ℕ) (n : Notes) → noting t x c (noting t x b n) ≡ noting t x b n
   unfolding noting
-  notes_settle true x b c n f = noted_settles wide (outcome p x) n (outcome_length p x) f b c
-  notes_settle false x b c n f = refl
+  notes_settle true x b c n = noted_settles wide (outcome p x) n (outcome_length p x) b c
+  notes_settle false x b c n = refl
 
-  notes_stay : (t u : Bool) (x y : Machine) (b c : ℕ) (n : Notes) → HasSheet n → ((d : ℕ) → noting t x d n ≡ n) → noting t x c (noting u y b n) ≡ noting u y b n
+  notes_stay : (t u : Bool) (x y : Machine) (b c : ℕ) (n : Notes) → ((d : ℕ) → noting t x d n ≡ n) → noting t x c (noting u y b n) ≡ noting u y b n
   unfolding noting
-  notes_stay true true x y b c n f h = noted_stays wide (outcome p x) n (outcome_length p x) f (outcome p y) (outcome_length p y) h c b
-  notes_stay true false x y b c n f h = h c
-  notes_stay false u x y b c n f h = refl
+  notes_stay true true x y b c n h = noted_stays wide (outcome p x) n (outcome_length p x) (outcome p y) (outcome_length p y) h c b
+  notes_stay true false x y b c n h = h c
+  notes_stay false u x y b c n h = refl
 
-  outcomes_settling : Settling (stepping p) (acts p (Outcomes wide)) HasSheet
+  outcomes_settling : Settling (stepping p) (acts p (Outcomes wide)) Any
   unfolding acts noting
-  outcomes_settling = record { fits = acts_keep HasSheet p (Outcomes wide) (λ w e o b n k f. let l = noted_two w o b n in omega arith); settles = settles; stays = stays }
+  outcomes_settling = record { fits = acts_keep Any p (Outcomes wide) (λ w e o b n k f. tt); settles = settles; stays = stays }
     where
-      settles : (x : Machine) (b : ℕ) (n m : Notes) → HasSheet n → acts p (Outcomes wide) x b n ≡ some m → Settled (stepping p) (acts p (Outcomes wide)) m x
-      settles x b n m f e c = subst (λ (k : Notes). some (noting (complete p x) x c k) ≡ some k) (some-injective _ m e) (ap some (notes_settle (complete p x) x b c n f))
+      settles : (x : Machine) (b : ℕ) (n m : Notes) → Any n → acts p (Outcomes wide) x b n ≡ some m → Settled (stepping p) (acts p (Outcomes wide)) m x
+      settles x b n m f e c = subst (λ (k : Notes). some (noting (complete p x) x c k) ≡ some k) (some-injective _ m e) (ap some (notes_settle (complete p x) x b c n))
 
-      stays : (x y : Machine) (b : ℕ) (n m : Notes) → HasSheet n → Settled (stepping p) (acts p (Outcomes wide)) n x → acts p (Outcomes wide) y b n ≡ some m → Settled (stepping p) (acts p (Outcomes wide)) m x
+      stays : (x y : Machine) (b : ℕ) (n m : Notes) → Any n → Settled (stepping p) (acts p (Outcomes wide)) n x → acts p (Outcomes wide) y b n ≡ some m → Settled (stepping p) (acts p (Outcomes wide)) m x
       stays x y b n m f h e c =
           subst (λ (k : Notes). some (noting (complete p x) x c k) ≡ some k) (some-injective _ m e)
-          (ap some (notes_stay (complete p x) (complete p y) x y b c n f (λ d. some-injective _ n (h d))))
+          (ap some (notes_stay (complete p x) (complete p y) x y b c n (λ d. some-injective _ n (h d))))
 
-pub settling : (p : Program) (a : Aim) → Settling (stepping p) (acts p a) HasSheet
+pub settling : (p : Program) (a : Aim) → Settling (stepping p) (acts p a) Any
 settling p Question = question_settling p
 settling p (Outcomes wide) = outcomes_settling p wide

@@ -28,7 +28,7 @@ use Rattle.search_arrivals.proofs.Telling.{went_on}
 use Rattle.step.specs.Inner.{potential}
 use Rattle.search_sequences.specs.OfProgram.{stepping}
 use Rattle.search_sequences.proofs.Machine.{lawful}
-use Rattle.search_arrivals.proofs.Acting.{question_same, asked_past, HasSheet, settling}
+use Rattle.search_arrivals.proofs.Acting.{question_same, asked_past, settling}
 use Rattle.search_arrivals.specs.Visits.{Ran, Going, Aim, Question, Outcomes, Arrival, Over, Ending, Open, acts, visiting, after_known, Reports, Known, Opens, Meets}
 
 module _ (p : Program) (a : Aim) (x : Machine) where
@@ -56,20 +56,20 @@ module _ (p : Program) (a : Aim) (x : Machine) where
   ]
 
   -- ---- a visit that goes on to its end makes its machine known
-  pub went_known : (left rest : ℕ) (n m : Notes) → HasSheet n → visiting p a x left n ≡ going rest m → (rest ≤ left) × Known p a m x (left - rest)
+  pub went_known : (left rest : ℕ) (n m : Notes) → visiting p a x left n ≡ going rest m → (rest ≤ left) × Known p a m x (left - rest)
   unfolding visiting
-  went_known left rest n m f e =
-      let w = scan_went (stepping p) (acts p a) (settling p a) x (upto (stepping p) (potential p x) x) left rest n m f e in
+  went_known left rest n m e =
+      let w = scan_went (stepping p) (acts p a) (settling p a) x (upto (stepping p) (potential p x) x) left rest n m tt e in
       let paid = w.1 in
       (omega arith, record { all = omega arith; nothing_new = w.0 })
 
 -- ---- what is known stays so while a visit notes more
-known_stays : (p : Program) (a : Aim) (y : Machine) (b : ℕ) (n : Notes) (x : Machine) (k : ℕ) → HasSheet n → Known p a n x k → Known p a (noted_of (visiting p a y b n)) x k
+known_stays : (p : Program) (a : Aim) (y : Machine) (b : ℕ) (n : Notes) (x : Machine) (k : ℕ) → Known p a n x k → Known p a (noted_of (visiting p a y b n)) x k
 unfolding visiting
-known_stays p a y b n x k f w =
+known_stays p a y b n x k w =
     record {
       all = w.all;
-      nothing_new = λ q i. sequence_stays (stepping p) (acts p a) (settling p a) y (upto (stepping p) (potential p y) y) b n x q f (w.nothing_new q i);
+      nothing_new = λ q i. sequence_stays (stepping p) (acts p a) (settling p a) y (upto (stepping p) (potential p y) y) b n x q tt (w.nothing_new q i);
     }
 
 -- where the question is asked, the notes are of no account
@@ -89,9 +89,9 @@ pub question_true : (p : Program) (a : Aim) (n m : Notes) (t : List ℕ) → a �
 unfolding EverySlot
 question_true p a n m t e h j within used = known_anyhow p a n m _ _ e (h j within used)
 
-every_stays : (p : Program) (a : Aim) (y : Machine) (b : ℕ) (n : Notes) (t : List ℕ) → HasSheet n → EverySlot (Known p a n) t → EverySlot (Known p a (noted_of (visiting p a y b n))) t
+every_stays : (p : Program) (a : Aim) (y : Machine) (b : ℕ) (n : Notes) (t : List ℕ) → EverySlot (Known p a n) t → EverySlot (Known p a (noted_of (visiting p a y b n))) t
 unfolding EverySlot
-every_stays p a y b n t f h j within used = known_stays p a y b n _ _ f (h j within used)
+every_stays p a y b n t h j within used = known_stays p a y b n _ _ (h j within used)
 
 -- the same answer and what is lent, under other names
 pub told_as : {d : ℕ} {o : Scan Step Notes} {r r' : Ran} {mid mid' : Notes} → Reports d o r mid → r' ≡ r → mid' ≡ mid → Reports d o r' mid'
@@ -106,9 +106,9 @@ pub trusted_as : {p : Program} {a : Aim} {n m : Notes} {old t new : List ℕ} �
 trusted_as {p} {a} {n} {m} {old} {t} {new} h l e f =
     record { holds = subst (λ (k : Notes). EverySlot (Known p a k) new) (sym f) (subst (EverySlot (Known p a n)) (sym e) h); as_long = ap length e ∙ l }
 
-module _ (p : Program) (a : Aim) (x : Machine) (left : ℕ) (n : Notes) {d rest : ℕ} {after : Notes} {r : Ran} (sheet : HasSheet n) (u : Reports d (visiting p a x left n) r after) (e : r ≡ Going rest) where
+module _ (p : Program) (a : Aim) (x : Machine) (left : ℕ) (n : Notes) {d rest : ℕ} {after : Notes} {r : Ran} (u : Reports d (visiting p a x left n) r after) (e : r ≡ Going rest) where
   went : (rest ≤ left) × Known p a after x (left - rest)
-  went = went_known p a x left rest n after sheet (went_on (visiting p a x left n) u rest e)
+  went = went_known p a x left rest n after (went_on (visiting p a x left n) u rest e)
 
   pub rest_within : rest ≤ left
   rest_within = went.0
@@ -143,6 +143,6 @@ module _ (p : Program) (a : Aim) (x : Machine) (d b : ℕ) (t : List ℕ) (n : N
   is_open i slot e = subst (Meets p a x d b t n) e u
 
 -- a visit that goes on leaves the table true of what it has noted
-pub stays_true : (p : Program) (a : Aim) (x : Machine) (b : ℕ) (n : Notes) {d rest : ℕ} {after : Notes} {r : Ran} (t : List ℕ) → HasSheet n → Reports d (visiting p a x b n) r after → r ≡ Going rest → EverySlot (Known p a n) t → EverySlot (Known p a after) t
-stays_true p a x b n {d} {rest} {after} {r} t f u e h =
-    subst (λ (m : Notes). EverySlot (Known p a m) t) (ap (λ (o : Scan Step Notes). noted_of o) (went_on (visiting p a x b n) u rest e)) (every_stays p a x b n t f h)
+pub stays_true : (p : Program) (a : Aim) (x : Machine) (b : ℕ) (n : Notes) {d rest : ℕ} {after : Notes} {r : Ran} (t : List ℕ) → Reports d (visiting p a x b n) r after → r ≡ Going rest → EverySlot (Known p a n) t → EverySlot (Known p a after) t
+stays_true p a x b n {d} {rest} {after} {r} t u e h =
+    subst (λ (m : Notes). EverySlot (Known p a m) t) (ap (λ (o : Scan Step Notes). noted_of o) (went_on (visiting p a x b n) u rest e)) (every_stays p a x b n t h)

@@ -64,11 +64,10 @@ at_end (Outcomes wide) d rest true h = Ending wide rest
 abbrev pub after_known : ℕ → ℕ → Ran
 after_known left n = cond (leb n left) (Going (left - n)) Out
 
--- what is asked before a visit: program and machine are well formed; no more than 80 steps follow in all; the sheet is one; the area has room for a trace of as many steps, or the outcomes in it are in order
+-- what is asked before a visit: program and machine are well formed; no more than 80 steps follow in all; the area has room for a trace of as many steps, or the outcomes in it are in order
 pub record Visitable (p : Program) (a : Aim) (x : Machine) (d : ℕ) (n : Notes) : Type 0 where
   pub well : Formed p x
   pub short : d + potential p x ≤ 80
-  pub two : length n.1 ≡ 2
   pub room : a ≡ Question → 480 ≤ length n.0
   pub orderly : (wide : Bool) → a ≡ Outcomes wide → Orderly wide n
 

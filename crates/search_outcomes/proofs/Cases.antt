@@ -6,14 +6,15 @@ use mathlib.Core.Logic.{◌⊎◌, inl, inr, ⊎_elim}
 use mathlib.Core.List.{List, ◌++◌}
 use Prim.Native.Nat.{ℕ, suc, ◌+◌, ◌-◌, ◌*◌, ◌≤◌, ◌<◌}
 use native.Mathlib.Omega.{arith}
-use lib.ListN.{length, get_or, take, drop, set, take-append-drop}
-use lib.Seq.{set-get_or, length-take-le}
+use lib.ListN.{length, take, drop, take-append-drop}
+use lib.Seq.{length-take-le}
 use borrow.Author.Tests.{lt-ltb, le-ltb}
 use Rattle.theory_sequences.specs.Listing.{entered}
 use Rattle.theory_sequences.proofs.Entered.{entered_length, entered_among}
 use Rattle.encode_bytes.specs.Places.{put}
 use Rattle.encode_bytes.proofs.Entries.{entries_length}
-use Rattle.search_outcomes.specs.Table.{row_width, place_bytes, capacity, rows_of, row_smaller, row_bytes, Notes, met_of, noted}
+use Rattle.search_outcomes.specs.declared.Sheet.{Sheet}
+use Rattle.search_outcomes.specs.Table.{row_width, place_bytes, capacity, rows_of, row_smaller, row_bytes, Notes, met_of, with_met, noted}
 use Rattle.search_outcomes.proofs.Rows.{Each, row_length, rows_bytes, rows_wide}
 
 -- ---- room for n rows
@@ -23,7 +24,7 @@ capacity_room false n area h = omega arith
 
 -- ---- the row of an outcome, the rows that are there, and those with it
 abbrev pub new_row : Bool → List ℕ → ℕ → Notes → List ℕ
-new_row wide o rest n = o ++ place_bytes wide (get_or n.1 1 0 - rest)
+new_row wide o rest n = o ++ place_bytes wide (n.1.budget - rest)
 
 abbrev pub old_rows : Bool → Notes → List (List ℕ)
 old_rows wide n = rows_of wide (met_of n) n.0
@@ -58,19 +59,19 @@ module _ (wide : Bool) (n : Notes) where
 
     pub new_wide : length o ≡ 48 → met_of n ≤ capacity wide n.0 → Each (row_width wide) (new_rows wide o rest n)
     new_wide full h r i =
-        ⊎_elim (λ e. ap length e ∙ row_length wide o (get_or n.1 1 0 - rest) full) (λ j. old_wide h r j) (entered_among row_smaller r (new_row wide o rest n) (old_rows wide n) i)
+        ⊎_elim (λ e. ap length e ∙ row_length wide o (n.1.budget - rest) full) (λ j. old_wide h r j) (entered_among row_smaller r (new_row wide o rest n) (old_rows wide n) i)
 
     pub noted_full : capacity wide n.0 < met_of n → noted wide o rest n ≡ n
     unfolding noted
     noted_full h = rw (lt-ltb (capacity wide n.0) (met_of n) h)
 
     module _ (room : met_of n ≤ capacity wide n.0) where
-      pub noted_over : capacity wide n.0 < length (new_rows wide o rest n) → noted wide o rest n ≡ (n.0, set n.1 0 (length (new_rows wide o rest n)))
+      pub noted_over : capacity wide n.0 < length (new_rows wide o rest n) → noted wide o rest n ≡ (n.0, with_met (length (new_rows wide o rest n)) n.1)
       unfolding noted
       noted_over h = rw (le-ltb (capacity wide n.0) (met_of n) room, lt-ltb (capacity wide n.0) (length (new_rows wide o rest n)) h)
 
       pub noted_in : length (new_rows wide o rest n) ≤ capacity wide n.0
-          → noted wide o rest n ≡ (put 0 (row_bytes (new_rows wide o rest n)) n.0, set n.1 0 (length (new_rows wide o rest n)))
+          → noted wide o rest n ≡ (put 0 (row_bytes (new_rows wide o rest n)) n.0, with_met (length (new_rows wide o rest n)) n.1)
       unfolding noted
       noted_in h = rw (le-ltb (capacity wide n.0) (met_of n) room, le-ltb (capacity wide n.0) (length (new_rows wide o rest n)) h)
 
@@ -78,4 +79,4 @@ module _ (wide : Bool) (n : Notes) where
       noted_there e =
           let l : length (new_rows wide o rest n) ≡ met_of n = ap length e ∙ old_length in
           noted_in (omega arith)
-          ∙ ap₂ (λ (x y : List ℕ). (x, y)) (ap (λ (x : List (List ℕ)). put 0 (row_bytes x) n.0) e ∙ old_written room) (ap (set n.1 0) l ∙ set-get_or n.1 0 0)
+          ∙ ap₂ (λ (x : List ℕ) (s : Sheet). (x, s)) (ap (λ (x : List (List ℕ)). put 0 (row_bytes x) n.0) e ∙ old_written room) (ap (λ (m : ℕ). with_met m n.1) l)

@@ -8,7 +8,7 @@ use Prim.Native.Nat.{ℕ, ◌+◌, ◌-◌, ◌*◌, ◌/◌, ◌≤◌, ◌<◌
 use native.Mathlib.Decide.{dec_lt}
 use native.Mathlib.Nat.{mul-le-mul_left}
 use native.Mathlib.Omega.{arith}
-use lib.ListN.{length, get_or, drop, set, length-map}
+use lib.ListN.{length, drop, length-map}
 use lib.Seq.{drop-append-add, drop-drop}
 use Rattle.theory_sequences.specs.Sequences.{Among, Ascending}
 use Rattle.theory_sequences.specs.Listing.{Entry, entered}
@@ -18,7 +18,7 @@ use Rattle.step.specs.Order.{for_each}
 use Rattle.step.specs.Outcome.{smaller}
 use Rattle.encode_bytes.specs.Places.{put}
 use Rattle.encode_bytes.proofs.Putting.{put_none, put_length}
-use Rattle.search_outcomes.specs.Table.{row_width, place_bytes, capacity, rows_of, row_smaller, row_bytes, entry_bytes, entry_smaller, Notes, met_of, noted, Orderly}
+use Rattle.search_outcomes.specs.Table.{row_width, place_bytes, capacity, rows_of, row_smaller, row_bytes, entry_bytes, entry_smaller, Notes, met_of, fresh_sheet, noted, Orderly}
 use Rattle.search_outcomes.proofs.Rows.{Each, row_length, new_key, bytes_length, rows_again}
 use Rattle.search_outcomes.proofs.Cases.{capacity_room, old_rows, new_rows, noted_full, noted_over, noted_in}
 
@@ -71,7 +71,7 @@ put_again bs cs a h =
 
 -- THE NOTES HOLD THE ENTRIES e, with the budget b, in bytes that were lent as `start`
 pub record Holds (wide : Bool) (start : List ℕ) (b : ℕ) (e : List (Entry (List ℕ))) (n : Notes) : Type 0 where
-  pub sheet : n.1 ≡ met_of n ∷ b ∷ []
+  pub budget : n.1.budget ≡ b
   -- as many have been met as there are entries, as long as there is room for these
   pub exact : length e ≤ capacity wide start → met_of n ≡ length e
   pub beyond : capacity wide start < length e → capacity wide start < met_of n
@@ -79,11 +79,11 @@ pub record Holds (wide : Bool) (start : List ℕ) (b : ℕ) (e : List (Entry (Li
   pub rows : length e ≤ capacity wide start → n.0 ≡ put 0 (row_bytes (map (entry_bytes wide) e)) start
   pub whole : (x : Entry (List ℕ)) → Among x e → length x.outcome ≡ 48
 
-pub holds_none : (wide : Bool) (start : List ℕ) (b : ℕ) → Holds wide start b [] (start, 0 ∷ b ∷ [])
+pub holds_none : (wide : Bool) (start : List ℕ) (b : ℕ) → Holds wide start b [] (start, fresh_sheet b)
 unfolding for_each
 holds_none wide start b =
     record {
-      sheet = refl;
+      budget = refl;
       exact = λ h. refl;
       beyond = λ h. absurd (omega arith);
       as_long = refl;
@@ -94,9 +94,6 @@ holds_none wide start b =
 module _ {wide : Bool} {start : List ℕ} {b : ℕ} {e : List (Entry (List ℕ))} {n : Notes} (k : Holds wide start b e n) where
   capacity_same : capacity wide n.0 ≡ capacity wide start
   capacity_same = ap (λ (l : ℕ). l / row_width wide) k.as_long
-
-  budget_same : get_or n.1 1 0 ≡ b
-  budget_same = ap (λ (s : List ℕ). get_or s 1 0) k.sheet
 
   module _ (fits : length e ≤ capacity wide start) where
     held_rows : old_rows wide n ≡ map (entry_bytes wide) e
@@ -122,17 +119,8 @@ module _ {wide : Bool} {start : List ℕ} {b : ℕ} {e : List (Entry (List ℕ))
 
     more_rows : length e ≤ capacity wide start → new_rows wide o r n ≡ map (entry_bytes wide) more
     more_rows fits =
-        ap₂ (λ (m : ℕ) (x : List (List ℕ)). entered row_smaller (o ++ place_bytes wide (m - r)) x) budget_same (held_rows fits)
+        ap₂ (λ (m : ℕ) (x : List (List ℕ)). entered row_smaller (o ++ place_bytes wide (m - r)) x) k.budget (held_rows fits)
         ∙ entered_image entry_smaller row_smaller (entry_bytes wide) Whole (rows_order wide) entry e full k.whole
-
-    sheet_with : (m : ℕ) → set n.1 0 m ≡ m ∷ b ∷ []
-    sheet_with m = ap (λ (s : List ℕ). set s 0 m) k.sheet
-
-    sheet_met : (m : ℕ) → get_or (set n.1 0 m) 0 0 ≡ m
-    sheet_met m = ap (λ (s : List ℕ). get_or s 0 0) (sheet_with m)
-
-    sheet_form : (m : ℕ) → set n.1 0 m ≡ get_or (set n.1 0 m) 0 0 ∷ b ∷ []
-    sheet_form m = sheet_with m ∙ ap (λ (j : ℕ). j ∷ b ∷ []) (sym (sheet_met m))
 
     pub holds_noted : Holds wide start b (entered entry_smaller (record { outcome = o; place = b - r }) e) (noted wide o r n)
     holds_noted = elim (dec_lt (capacity wide start) (length e)) [ yes h ↦ beyond_all h | no h ↦ with_room (omega arith) ]
@@ -142,7 +130,7 @@ module _ {wide : Bool} {start : List ℕ} {b : ℕ} {e : List (Entry (List ℕ))
             let l = more_length in
             let m = k.beyond h in
             subst (Holds wide start b more) (sym (noted_full wide n o r (rw capacity_same m)))
-            (record { sheet = k.sheet; exact = λ f. absurd (omega arith); beyond = λ f. m; as_long = k.as_long; rows = λ f. absurd (omega arith); whole = more_whole })
+            (record { budget = k.budget; exact = λ f. absurd (omega arith); beyond = λ f. m; as_long = k.as_long; rows = λ f. absurd (omega arith); whole = more_whole })
 
         with_room : length e ≤ capacity wide start → Holds wide start b more (noted wide o r n)
         with_room fits =
@@ -152,9 +140,9 @@ module _ {wide : Bool} {start : List ℕ} {b : ℕ} {e : List (Entry (List ℕ))
               | yes h ↦
                   subst (Holds wide start b more) (sym (noted_over wide n o r met (rw (capacity_same, size) h)))
                   (record {
-                    sheet = sheet_form (length (new_rows wide o r n));
+                    budget = k.budget;
                     exact = λ f. absurd (omega arith);
-                    beyond = λ f. rw (sheet_met (length (new_rows wide o r n)), size) h;
+                    beyond = λ f. rw size h;
                     as_long = k.as_long;
                     rows = λ f. absurd (omega arith);
                     whole = more_whole;
@@ -172,8 +160,8 @@ module _ {wide : Bool} {start : List ℕ} {b : ℕ} {e : List (Entry (List ℕ))
                   ∙ put_again (row_bytes (map (entry_bytes wide) e)) (row_bytes (map (entry_bytes wide) more)) start (omega arith) in
                   subst (Holds wide start b more) (sym (noted_in wide n o r met (rw (capacity_same, size) few)))
                   (record {
-                    sheet = sheet_form (length (new_rows wide o r n));
-                    exact = λ f. sheet_met (length (new_rows wide o r n)) ∙ size;
+                    budget = k.budget;
+                    exact = λ f. size;
                     beyond = λ f. absurd (omega arith);
                     as_long = ap length written ∙ put_length 0 (row_bytes (map (entry_bytes wide) more)) start (omega arith);
                     rows = λ f. written;
@@ -193,5 +181,4 @@ module _ {wide : Bool} {start : List ℕ} {b : ℕ} {e : List (Entry (List ℕ))
               | no l ↦ let fits : length e ≤ capacity wide start = omega arith in
                   rw (held_rows fits) (ascending_image entry_smaller row_smaller (entry_bytes wide) Whole (rows_order wide) e k.whole s)
             ];
-        two = ap length k.sheet;
       }

@@ -1,13 +1,12 @@
--- What noting is good for: an outcome that is noted stays noted, the rows stay in order, and neither the bytes nor the budget change their size.
+-- What noting is good for: an outcome that is noted stays noted, the rows stay in order, and the bytes do not change their size.
 -- Assumes nothing.
-use mathlib.Core.Path.{◌≡◌, refl, sym, ap, ap₂, subst, fun_ext, ◌∙◌}
+use mathlib.Core.Path.{◌≡◌, sym, ap, ap₂, subst, fun_ext, ◌∙◌}
 use mathlib.Core.Bool.{Bool, true, false}
 use mathlib.Core.List.{List, ◌++◌, map}
 use Prim.Native.Nat.{ℕ, suc, ◌+◌, ◌-◌, ◌≤◌, ◌<◌}
 use native.Mathlib.Decide.{dec_lt}
 use native.Mathlib.Omega.{arith}
-use lib.ListN.{length, get_or, drop, set, length-set}
-use lib.Seq.{get_or-set_same, get_or-set_other}
+use lib.ListN.{length, get_or, drop}
 use Rattle.theory_sequences.specs.Sequences.{Ascending}
 use Rattle.theory_sequences.specs.Listing.{entered}
 use Rattle.theory_sequences.proofs.Entered.{entered_unchanged, entered_again, entered_stays, entered_ascending}
@@ -23,7 +22,8 @@ use Rattle.step.specs.Order.{range, for_each}
 use Rattle.step.specs.Outcome.{last_value, register_values, outcome, smaller}
 use Rattle.encode_bytes.specs.Places.{put}
 use Rattle.encode_bytes.proofs.Putting.{put_length}
-use Rattle.search_outcomes.specs.Table.{row_width, place_bytes, capacity, rows_of, row_smaller, row_bytes, Notes, met_of, noted, Orderly, Placed, ending}
+use Rattle.search_outcomes.specs.declared.Sheet.{Sheet}
+use Rattle.search_outcomes.specs.Table.{row_width, place_bytes, capacity, rows_of, row_smaller, row_bytes, Notes, met_of, with_met, noted, Orderly, Placed, ending}
 pub use Rattle.search_outcomes.proofs.Order.{smaller_asym, smaller_cut, smaller_same, smaller_irreflexive, smaller_order, row_order}
 pub use Rattle.search_outcomes.proofs.Ending.{ending_length}
 use Rattle.search_outcomes.proofs.Rows.{new_key, bytes_length, rows_again}
@@ -32,10 +32,10 @@ use Rattle.search_outcomes.proofs.Cases.{capacity_room, new_row, old_rows, new_r
 -- ---- the cases, with what is noted in each
 data Noting (wide : Bool) (o : List ℕ) (rest : ℕ) (n : Notes) : Type 0 where
   full : capacity wide n.0 < met_of n → noted wide o rest n ≡ n → Noting wide o rest n
-  over : met_of n ≤ capacity wide n.0 → capacity wide n.0 < length (new_rows wide o rest n) → noted wide o rest n ≡ (n.0, set n.1 0 (length (new_rows wide o rest n)))
+  over : met_of n ≤ capacity wide n.0 → capacity wide n.0 < length (new_rows wide o rest n) → noted wide o rest n ≡ (n.0, with_met (length (new_rows wide o rest n)) n.1)
       → Noting wide o rest n
   within : met_of n ≤ capacity wide n.0 → length (new_rows wide o rest n) ≤ capacity wide n.0
-      → noted wide o rest n ≡ (put 0 (row_bytes (new_rows wide o rest n)) n.0, set n.1 0 (length (new_rows wide o rest n))) → Noting wide o rest n
+      → noted wide o rest n ≡ (put 0 (row_bytes (new_rows wide o rest n)) n.0, with_met (length (new_rows wide o rest n)) n.1) → Noting wide o rest n
 
 noting : (wide : Bool) (o : List ℕ) (rest : ℕ) (n : Notes) → Noting wide o rest n
 noting wide o rest n =
@@ -65,67 +65,49 @@ module _ (wide : Bool) (o : List ℕ) (rest : ℕ) (n : Notes) where
       go (over room h q) = rw q
       go (within room fits q) = rw q (written_length e room fits)
 
-  -- the sheet changes in its first number only
-  noted_sheet : (P : List ℕ → Type 0) → P n.1 → ((m : ℕ) → P (set n.1 0 m)) → P (noted wide o rest n).1
-  noted_sheet P same changed = go (noting wide o rest n)
-    where
-      go : Noting wide o rest n → P (noted wide o rest n).1
-      go (full h q) = rw q same
-      go (over room h q) = rw q (changed (length (new_rows wide o rest n)))
-      go (within room fits q) = rw q (changed (length (new_rows wide o rest n)))
-
-  pub noted_two : length (noted wide o rest n).1 ≡ length n.1
-  noted_two = noted_sheet (λ (s : List ℕ). length s ≡ length n.1) refl (λ m. length-set n.1 0 m)
-
 -- ---- what stands there once the outcome is entered
-module _ (wide : Bool) (o : List ℕ) (rest : ℕ) (n : Notes) (e : length o ≡ 48) (some : 0 < length n.1) (room : met_of n ≤ capacity wide n.0) (fits : length (new_rows wide o rest n) ≤ capacity wide n.0) where
+module _ (wide : Bool) (o : List ℕ) (rest : ℕ) (n : Notes) (e : length o ≡ 48) (room : met_of n ≤ capacity wide n.0) (fits : length (new_rows wide o rest n) ≤ capacity wide n.0) where
   abbrev after : Notes
-  after = (put 0 (row_bytes (new_rows wide o rest n)) n.0, set n.1 0 (length (new_rows wide o rest n)))
-
-  after_met : met_of after ≡ length (new_rows wide o rest n)
-  after_met = get_or-set_same n.1 0 (length (new_rows wide o rest n)) 0 some
+  after = (put 0 (row_bytes (new_rows wide o rest n)) n.0, with_met (length (new_rows wide o rest n)) n.1)
 
   after_room : met_of after ≤ capacity wide after.0
-  after_room = rw (after_met, written_length wide o rest n e room fits) fits
+  after_room = rw (written_length wide o rest n e room fits) fits
 
   after_rows : old_rows wide after ≡ new_rows wide o rest n
   unfolding put rows_of
   after_rows =
       let w = row_width wide in
       let rows = new_rows wide o rest n in
-      ap (λ (m : ℕ). rows_of wide m after.0) after_met ∙ rows_again w rows (drop (0 + length (row_bytes rows)) n.0) (new_wide wide n o rest e room)
-
-  after_budget : get_or after.1 1 0 ≡ get_or n.1 1 0
-  after_budget = get_or-set_other n.1 0 1 (length (new_rows wide o rest n)) 0 (λ z. omega arith)
+      rows_again w rows (drop (0 + length (row_bytes rows)) n.0) (new_wide wide n o rest e room)
 
 -- where too many have been met, nothing is noted any more
-over_full : (wide : Bool) (c : List ℕ) (r : ℕ) (n : Notes) (m : ℕ) → 0 < length n.1 → capacity wide n.0 < m → noted wide c r (n.0, set n.1 0 m) ≡ (n.0, set n.1 0 m)
-over_full wide c r n m some h = let l = get_or-set_same n.1 0 m 0 some in noted_full wide (n.0, set n.1 0 m) c r (omega arith)
+over_full : (wide : Bool) (c : List ℕ) (r : ℕ) (n : Notes) (m : ℕ) → capacity wide n.0 < m → noted wide c r (n.0, with_met m n.1) ≡ (n.0, with_met m n.1)
+over_full wide c r n m h = noted_full wide (n.0, with_met m n.1) c r h
 
-module _ (wide : Bool) (o : List ℕ) (n : Notes) (e : length o ≡ 48) (some : 0 < length n.1) where
+module _ (wide : Bool) (o : List ℕ) (n : Notes) (e : length o ≡ 48) where
   -- AN OUTCOME THAT IS NOTED is there: noted again, wherever, it changes nothing
   pub noted_settles : (r r' : ℕ) → noted wide o r' (noted wide o r n) ≡ noted wide o r n
   noted_settles r r' = go (noting wide o r n)
     where
       go : Noting wide o r n → noted wide o r' (noted wide o r n) ≡ noted wide o r n
       go (full h q) = rw q (noted_full wide n o r' h)
-      go (over room h q) = rw q (over_full wide o r' n (length (new_rows wide o r n)) some h)
+      go (over room h q) = rw q (over_full wide o r' n (length (new_rows wide o r n)) h)
       go (within room fits q) =
-          let n' : Notes = after wide o r n e some room fits in
-          let rows = after_rows wide o r n e some room fits in
-          let p = place_bytes wide (get_or n.1 1 0 - r) in
-          let p' = place_bytes wide (get_or n'.1 1 0 - r') in
+          let n' : Notes = after wide o r n e room fits in
+          let rows = after_rows wide o r n e room fits in
+          let p = place_bytes wide (n.1.budget - r) in
+          let p' = place_bytes wide (n'.1.budget - r') in
           let alike : (x y : List ℕ) → row_smaller (o ++ x) (o ++ y) ≡ false = λ x y. ap₂ smaller (new_key o x e) (new_key o y e) ∙ smaller_irreflexive o in
           rw q
-          (noted_there wide n' o r' (after_room wide o r n e some room fits)
+          (noted_there wide n' o r' (after_room wide o r n e room fits)
           (ap (entered row_smaller (o ++ p')) rows ∙ entered_again row_smaller row_order (o ++ p) (o ++ p') (old_rows wide n) (alike p p') (alike p' p) ∙ sym rows))
 
   -- an outcome that changes nothing is there
   there_already : (r : ℕ) → noted wide o r n ≡ n → met_of n ≤ capacity wide n.0 → new_rows wide o r n ≡ old_rows wide n
   there_already r h room = go (noting wide o r n)
     where
-      count : (m : ℕ) → set n.1 0 m ≡ n.1 → m ≡ met_of n
-      count m q = sym (get_or-set_same n.1 0 m 0 some) ∙ ap (λ (s : List ℕ). get_or s 0 0) q
+      count : (m : ℕ) → with_met m n.1 ≡ n.1 → m ≡ met_of n
+      count m q = ap (λ (s : Sheet). s.met) q
 
       go : Noting wide o r n → new_rows wide o r n ≡ old_rows wide n
       go (full l q) = absurd (omega arith)
@@ -140,36 +122,30 @@ module _ (wide : Bool) (o : List ℕ) (n : Notes) (e : length o ≡ 48) (some : 
     where
       go : Noting wide c r' n → noted wide o r (noted wide c r' n) ≡ noted wide c r' n
       go (full h q) = rw q (there r)
-      go (over room h q) = rw q (over_full wide o r n (length (new_rows wide c r' n)) some h)
+      go (over room h q) = rw q (over_full wide o r n (length (new_rows wide c r' n)) h)
       go (within room fits q) =
-          let n' : Notes = after wide c r' n ec some room fits in
-          let rows = after_rows wide c r' n ec some room fits in
-          let budget = after_budget wide c r' n ec some room fits in
+          let n' : Notes = after wide c r' n ec room fits in
+          let rows = after_rows wide c r' n ec room fits in
           let old = there_already r (there r) room in
           rw q
-          (noted_there wide n' o r (after_room wide c r' n ec some room fits)
-          (ap₂ (λ (b : ℕ) (x : List (List ℕ)). entered row_smaller (o ++ place_bytes wide (b - r)) x) budget rows
+          (noted_there wide n' o r (after_room wide c r' n ec room fits)
+          (ap (entered row_smaller (new_row wide o r n)) rows
           ∙ entered_stays row_smaller row_order (new_row wide o r n) (new_row wide c r' n) (old_rows wide n) old ∙ sym rows))
 
 -- THE ROWS STAY IN ORDER
 pub noted_orderly : (wide : Bool) (o : List ℕ) (r : ℕ) (n : Notes) → length o ≡ 48 → Orderly wide n → Orderly wide (noted wide o r n)
-noted_orderly wide o r n e k = record { rising = go (noting wide o r n); two = noted_two wide o r n ∙ k.two }
+noted_orderly wide o r n e k = record { rising = go (noting wide o r n) }
   where
-    some : 0 < length n.1
-    some = let t = k.two in omega arith
-
     Rises : Notes → Type 0
     Rises m = met_of m ≤ capacity wide m.0 → Ascending (λ (x y : List ℕ). row_smaller x y ≡ true) (old_rows wide m)
 
     go : Noting wide o r n → Rises (noted wide o r n)
     go (full h q) = subst Rises (sym q) k.rising
-    go (over room h q) =
-        let l = get_or-set_same n.1 0 (length (new_rows wide o r n)) 0 some in
-        subst Rises (sym q) (λ m. absurd (omega arith))
+    go (over room h q) = subst Rises (sym q) (λ m. absurd (omega arith))
     go (within room fits q) =
-        let n' : Notes = after wide o r n e some room fits in
+        let n' : Notes = after wide o r n e room fits in
         subst Rises (sym q)
-        (λ m. rw (after_rows wide o r n e some room fits) (entered_ascending row_smaller row_order (new_row wide o r n) (old_rows wide n) (k.rising room)))
+        (λ m. rw (after_rows wide o r n e room fits) (entered_ascending row_smaller row_order (new_row wide o r n) (old_rows wide n) (k.rising room)))
 
 -- ---- a well-formed machine
 module _ (p : Program) (x : Machine) (f : Formed p x) where

@@ -7,12 +7,12 @@ use Prim.Native.Nat.{ℕ, suc, ◌+◌, ◌-◌, ◌*◌, ◌/◌, ◌≤◌, �
 use native.Mathlib.Decide.{dec_lt}
 use native.Mathlib.Nat.{mul-sub, mul-suc, mul-le-mul_left, div-le_self}
 use native.Mathlib.Omega.{arith}
-use lib.ListN.{length, get_or, take, drop, set, length-append, length-drop}
+use lib.ListN.{length, get_or, take, drop, length-append, length-drop}
 use lib.Seq.{length-take-le}
 use Rattle.theory_sequences.proofs.Entered.{entered_at, entered_there}
 use Rattle.step.specs.Outcome.{smaller}
 use Rattle.encode_bytes.specs.Places.{put}
-use Rattle.search_outcomes.specs.Table.{row_width, capacity, rows_of, row_smaller, row_bytes, place_bytes, Notes, met_of, noted, Orderly}
+use Rattle.search_outcomes.specs.Table.{row_width, capacity, rows_of, row_smaller, row_bytes, place_bytes, Notes, met_of, with_met, noted, Orderly}
 use Rattle.search_outcomes.specs.Inner.{key_at, SameKey, Rising, Smaller}
 use Rattle.search_outcomes.proofs.Order.{smaller_same, smaller_irreflexive, smaller_asym}
 use Rattle.search_outcomes.proofs.Halving.{row_within}
@@ -87,14 +87,14 @@ module _ {wide : Bool} {o : List ℕ} {n : Notes} {k : ℕ} (f : Found wide o n 
   first : (j : ℕ) (d : List ℕ) → j < k → row_smaller (get_or (old_rows wide n) j d) (new_row wide o rest n) ≡ true
   first j d h =
       let l = f.place.within in
-      ap₂ smaller (old_key wide n j (omega arith) d) (new_key o (place_bytes wide (get_or n.1 1 0 - rest)) f.full) ∙ f.place.before j h
+      ap₂ smaller (old_key wide n j (omega arith) d) (new_key o (place_bytes wide (n.1.budget - rest)) f.full) ∙ f.place.before j h
 
   module _ (h : k < met_of n) where
     here : (d : List ℕ) → row_smaller (get_or (old_rows wide n) k d) (new_row wide o rest n) ≡ smaller (key_at (row_width wide * k) n.0) o
-    here d = ap₂ smaller (old_key wide n k h d) (new_key o (place_bytes wide (get_or n.1 1 0 - rest)) f.full)
+    here d = ap₂ smaller (old_key wide n k h d) (new_key o (place_bytes wide (n.1.budget - rest)) f.full)
 
     back : (d : List ℕ) → row_smaller (new_row wide o rest n) (get_or (old_rows wide n) k d) ≡ smaller o (key_at (row_width wide * k) n.0)
-    back d = ap₂ smaller (new_key o (place_bytes wide (get_or n.1 1 0 - rest)) f.full) (old_key wide n k h d)
+    back d = ap₂ smaller (new_key o (place_bytes wide (n.1.budget - rest)) f.full) (old_key wide n k h d)
 
     -- the row at the place has the outcome: nothing changes
     pub found_there : key_at (row_width wide * k) n.0 ≡ o → n ≡ noted wide o rest n
@@ -128,10 +128,10 @@ module _ {wide : Bool} {o : List ℕ} {n : Notes} {k : ℕ} (f : Found wide o n 
         ap length found_rows ∙ length-append (take k (old_rows wide n)) (new_row wide o rest n ∷ drop k (old_rows wide n))
         ∙ omega (arith, length-take-le k (old_rows wide n) (omega arith), length-drop k (old_rows wide n))
 
-    pub found_over : met_of n ≡ capacity wide n.0 → (n.0, set n.1 0 (met_of n + 1)) ≡ noted wide o rest n
+    pub found_over : met_of n ≡ capacity wide n.0 → (n.0, with_met (met_of n + 1) n.1) ≡ noted wide o rest n
     found_over e =
         let l = found_length in
-        sym (noted_over wide n o rest f.room (omega arith) ∙ ap (λ (m : ℕ). (n.0, set n.1 0 m)) l)
+        sym (noted_over wide n o rest f.room (omega arith) ∙ ap (λ (m : ℕ). (n.0, with_met m n.1)) l)
 
     -- the bytes of all rows with the new one
     found_bytes_lem : row_bytes (new_rows wide o rest n)
@@ -149,7 +149,7 @@ module _ {wide : Bool} {o : List ℕ} {n : Notes} {k : ℕ} (f : Found wide o n 
         ∙ ap₂ (λ (x y : List ℕ). x ++ y) front (bytes_cons (new_row wide o rest n) tail ∙ ap (λ (x : List ℕ). new_row wide o rest n ++ x) rear)
 
     -- the rows from the place on move up, and the new one is written there
-    module _ (fits : met_of n ≡ capacity wide n.0 → ⊥) (place : ℕ) (p : place ≡ get_or n.1 1 0 - rest) (a b : List ℕ)
+    module _ (fits : met_of n ≡ capacity wide n.0 → ⊥) (place : ℕ) (p : place ≡ n.1.budget - rest) (a b : List ℕ)
         (ea : a ≡ put (row_width wide * k + row_width wide) (take (row_width wide * met_of n - row_width wide * k) (drop (row_width wide * k) n.0)) n.0)
         (eb : b ≡ put (row_width wide * k) (o ++ place_bytes wide place) a) where
       found_written : b ≡ put 0 (row_bytes (new_rows wide o rest n)) n.0
@@ -157,7 +157,7 @@ module _ {wide : Bool} {o : List ℕ} {n : Notes} {k : ℕ} (f : Found wide o n 
           let at : ℕ = row_width wide * k in
           let row : List ℕ = new_row wide o rest n in
           let part : List ℕ = take (row_width wide * met_of n - at) (drop at n.0) in
-          let long = row_length wide o (get_or n.1 1 0 - rest) f.full in
+          let long = row_length wide o (n.1.budget - rest) f.full in
           let over = found_room f fits in
           let before = found_before f in
           eb ∙ ap₂ (λ (m : ℕ) (x : List ℕ). put at (o ++ place_bytes wide m) x) p ea
@@ -165,8 +165,8 @@ module _ {wide : Bool} {o : List ℕ} {n : Notes} {k : ℕ} (f : Found wide o n 
           ∙ sym (put_from_start at (row ++ part) n.0 (omega arith))
           ∙ ap (λ (x : List ℕ). put 0 x n.0) (sym found_bytes_lem)
 
-      pub found_in : (b, set n.1 0 (met_of n + 1)) ≡ noted wide o rest n
+      pub found_in : (b, with_met (met_of n + 1) n.1) ≡ noted wide o rest n
       found_in =
           let l = found_length in
           let r = found_below f fits in
-          ap₂ (λ (x : List ℕ) (m : ℕ). (x, set n.1 0 m)) found_written (sym l) ∙ sym (noted_in wide n o rest f.room (omega arith))
+          ap₂ (λ (x : List ℕ) (m : ℕ). (x, with_met m n.1)) found_written (sym l) ∙ sym (noted_in wide n o rest f.room (omega arith))

@@ -11,6 +11,13 @@ ghost use Rattle.search_outcomes.specs.Inner.{values_of, lasts_of, key_at, SameK
 use encode_bytes::{Encode, put_bytes, put_each, put_u32, put_u64};
 use machine::{Machine, Memory, Register, Thread};
 
+// Beside the rows: how many outcomes have been met, and the budget.
+#[derive(Clone, Copy)]
+pub struct Sheet {
+    pub met: u64,
+    pub budget: u64,
+}
+
 // The bytes of a row.
 pub fn row_width(wide: bool) -> usize
     ensures { result ≡ row_width wide }
@@ -84,6 +91,7 @@ fn is_same(area: &[u8], at: usize, key: &[u8; 48]) -> bool
 }
 
 // How many of the first n rows are smaller than the key: half of those in question at a time.
+// Not std's `partition_point`: it takes a slice of rows, and how wide these are is known only at run time.
 fn smaller_rows(area: &[u8], w: usize, n: usize, key: &[u8; 48]) -> usize
     requires { Rising w n area.now × (length key.now ≡ 48) }
     ensures { Smaller w n area.now key.now result }
@@ -124,13 +132,13 @@ fn put_row(area: &mut [u8], at: usize, wide: bool, key: &[u8; 48], place: u64)
 
 // An outcome is entered, where `rest` of the budget is left: the first to be met has the place. Where it finds no room, the
 // number of outcomes that have been met says so from then on.
-fn enter(area: &mut [u8], sheet: &mut [u64; 2], wide: bool, key: &[u8; 48], rest: u64)
+fn enter(area: &mut [u8], sheet: &mut Sheet, wide: bool, key: &[u8; 48], rest: u64)
     requires { (length key.now ≡ 48) × Orderly wide (area.old, sheet.old) }
     ensures { (area.new, sheet.new) ≡ noted wide key.now rest (area.old, sheet.old) }
 {
     let w = row_width(wide);
     let room = area.len() / w;
-    let met = sheet[0];
+    let met = sheet.met;
     if (room as u64) < met {
         return;
     }
@@ -141,18 +149,18 @@ fn enter(area: &mut [u8], sheet: &mut [u64; 2], wide: bool, key: &[u8; 48], rest
             return;
         }
     }
-    sheet[0] = met + 1;
+    sheet.met = met + 1;
     if n == room {
         return;
     }
     move_up(area, w * k, w * n, w);
-    let budget = sheet[1];
+    let budget = sheet.budget;
     let place = if rest < budget { budget - rest } else { 0 };
     put_row(area, w * k, wide, key, place);
 }
 
 // The outcome of x is noted, where `rest` of the budget is left.
-pub fn note(area: &mut [u8], sheet: &mut [u64; 2], wide: bool, x: Machine, rest: u64)
+pub fn note(area: &mut [u8], sheet: &mut Sheet, wide: bool, x: Machine, rest: u64)
     requires { Placed x.memory × Orderly wide (area.old, sheet.old) }
     ensures { (area.new, sheet.new) ≡ noted wide (ending x) rest (area.old, sheet.old) }
 {

@@ -12,6 +12,7 @@ use Rattle.machine.specs.Inner.{Formed}
 use Rattle.theory_sequences.specs.Scan.{Scan, noted_of}
 use Rattle.step.specs.Step.{Step}
 use Rattle.step.specs.Outcome.{outcome}
+use Rattle.search_outcomes.specs.declared.Sheet.{Sheet}
 use Rattle.search_outcomes.specs.Table.{Notes, ending, noted, Orderly}
 use Rattle.search_outcomes.proofs.Laws.{ending_is}
 use Rattle.search_arrivals.specs.declared.Aim.{Aim}
@@ -19,10 +20,10 @@ use Rattle.search_arrivals.specs.declared.Ran.{Ran}
 use Rattle.search_arrivals.specs.declared.Ran.TheVariants.{Going}
 use Rattle.search_arrivals.specs.Visits.{visiting, Reports, Visitable}
 use Rattle.search_arrivals.proofs.Telling.{went_on}
-use Rattle.search_arrivals.proofs.Acting.{visiting_long, visiting_two, visiting_orderly}
+use Rattle.search_arrivals.proofs.Acting.{visiting_long, visiting_orderly}
 
 -- the lent area and the sheet, each under another name
-pub pair_same : {area area' sheet sheet' : List ℕ} → area ≡ area' → sheet ≡ sheet' → ◌≡◌ {A = Notes} (area, sheet) (area', sheet')
+pub pair_same : {area area' : List ℕ} {sheet sheet' : Sheet} → area ≡ area' → sheet ≡ sheet' → ◌≡◌ {A = Notes} (area, sheet) (area', sheet')
 pair_same e f j = (e j, f j)
 
 -- what is written down is the outcome of the machine
@@ -38,7 +39,6 @@ still_ready {p} {a} {x} {d} {n} o y b e rest r mid t g =
       record {
         well = o.well;
         short = o.short;
-        two = ap (λ (m : Notes). length m.1) (sym same) ∙ visiting_two p a y b n ∙ o.two;
         room = λ q. let l = o.room q in omega arith;
         orderly = λ wide q. subst (Orderly wide) same (visiting_orderly p a y b n o.orderly wide q);
       },

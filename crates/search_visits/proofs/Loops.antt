@@ -358,7 +358,6 @@ module _ {p : Program} {a : Aim} {x : Machine} {d : ℕ} {whole : Scan Step Note
             record {
               well = record { program_formed = o.well.program_formed; machine_formed = kept p x y (step_numbered i k.next) is_accepted };
               short = let b = lower in let s = o.short in omega arith;
-              two = o.two;
               room = o.room;
               orderly = o.orderly;
             }

@@ -31,12 +31,11 @@ use Rattle.search_arrivals.specs.Visits.{acts, visiting, Reports, Visitable, Kno
 use Rattle.search_arrivals.proofs.Parts.{visiting_is}
 
 -- ---- before the visit
-pub ready_fresh : (p : Program) (a : Aim) (n : Notes) → T (program_test p) → length n.1 ≡ 2 → (a ≡ Question → 480 ≤ length n.0) → ((wide : Bool) → a ≡ Outcomes wide → Orderly wide n) → Visitable p a fresh 0 n
-ready_fresh p a n h two room orderly =
+pub ready_fresh : (p : Program) (a : Aim) (n : Notes) → T (program_test p) → (a ≡ Question → 480 ≤ length n.0) → ((wide : Bool) → a ≡ Outcomes wide → Orderly wide n) → Visitable p a fresh 0 n
+ready_fresh p a n h room orderly =
     record {
       well = record { program_formed = h; machine_formed = fresh_formed p h };
       short = let e = potential_fresh p in let s = size_small p h in omega arith;
-      two = two;
       room = room;
       orderly = orderly;
     }

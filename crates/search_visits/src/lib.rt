@@ -7,7 +7,7 @@ ghost use Rattle.search_arrivals.specs.Visits.{visiting, Reports, Visitable, Kno
 use machine::Machine;
 use program::Program;
 use search_arrivals::{Aim, Arrival, Ran, arrive};
-use search_outcomes::note;
+use search_outcomes::{Sheet, note};
 use search_table::{SLOT, keep};
 use search_tries::threads::next_open;
 use search_tries::{after_try, attempt, next_try, step_at, tries_of};
@@ -27,7 +27,7 @@ fn walk(
     depth: usize,
     left: u64,
     area: &mut [u8],
-    sheet: &mut [u64; 2],
+    sheet: &mut Sheet,
     table: &mut [u8],
 ) -> Ran
     requires { Visitable p aim x depth (area.old, sheet.old) × Opens p x left table.old first slot × EverySlot (Known p aim (area.old, sheet.old)) table.old }
@@ -93,7 +93,7 @@ pub fn visit(
     depth: usize,
     left: u64,
     area: &mut [u8],
-    sheet: &mut [u64; 2],
+    sheet: &mut Sheet,
     table: &mut [u8],
 ) -> Ran
     requires { Visitable p aim x depth (area.old, sheet.old) × EverySlot (Known p aim (area.old, sheet.old)) table.old }

@@ -1,10 +1,10 @@
 -- `outcomes::list_program` meets its contract.
 -- Assumes nothing.
 use mathlib.Core.Path.{◌≡◌}
-use mathlib.Core.List.{[], ◌∷◌}
 use native.Mathlib.Omega.{arith}
 use lib.ListN.{length, replicate}
 use Rattle.machine.specs.State.{fresh}
+use Rattle.search_outcomes.specs.Table.{fresh_sheet}
 use Rattle.search_outcomes.proofs.Rows.{width_least}
 use Rattle.search_arrivals.specs.declared.Aim.TheVariants.{Outcomes}
 use Rattle.search_arrivals.specs.Visits.{visiting, Reports}
@@ -30,13 +30,13 @@ visit-ran-requires c = (
 
 pub overflow_sub-result : goal.overflow_sub-result
 overflow_sub-result c =
-    let told : Reports 0 (visiting c.args.p (Outcomes c.args.wide) fresh c.args.budget (emptied c.args.wide c.args.table.now, 0 ∷ c.args.budget ∷ [])) c.visit-ran.result (c.visit-ran.new.area, c.visit-ran.new.sheet) =
+    let told : Reports 0 (visiting c.args.p (Outcomes c.args.wide) fresh c.args.budget (emptied c.args.wide c.args.table.now, fresh_sheet c.args.budget)) c.visit-ran.result (c.visit-ran.new.area, c.visit-ran.new.sheet) =
     reported _ _ _ c.args.table.now c.fresh.ensures c.row_width-w.ensures c.clear_front.ensures c.visit-ran.ensures.0 in
     going_left _ _ _ _ _ told _ c.in-Going.is
 
 pub returns-then-met-room : goal.returns-then-met-room
 returns-then-met-room c =
-    let told : Reports 0 (visiting c.args.p (Outcomes c.args.wide) fresh c.args.budget (emptied c.args.wide c.args.table.now, 0 ∷ c.args.budget ∷ [])) c.visit-ran.result (c.visit-ran.new.area, c.visit-ran.new.sheet) =
+    let told : Reports 0 (visiting c.args.p (Outcomes c.args.wide) fresh c.args.budget (emptied c.args.wide c.args.table.now, fresh_sheet c.args.budget)) c.visit-ran.result (c.visit-ran.new.area, c.visit-ran.new.sheet) =
     reported _ _ _ c.args.table.now c.fresh.ensures c.row_width-w.ensures c.clear_front.ensures c.visit-ran.ensures.0 in
     let machines_cleared : c.clear-2.new.table ≡ replicate (length c.args.machines.now) 0 = cleared_again c.clear-2.ensures c.visit-ran.auto.table c.clear.auto.table in
     finished_all _ _ _ _ _ _ told _ _ machines_cleared _ c.in-Going.is (rw c.row_width-w.ensures at c.if-met-room.true)
@@ -46,19 +46,19 @@ overflow_mul-w-in-Going c = let l = rows_within c.args.wide c.args.table.now _ c
 
 pub clear_front-requires-in-Going : goal.clear_front-requires-in-Going
 clear_front-requires-in-Going c =
-    let told : Reports 0 (visiting c.args.p (Outcomes c.args.wide) fresh c.args.budget (emptied c.args.wide c.args.table.now, 0 ∷ c.args.budget ∷ [])) c.visit-ran.result (c.visit-ran.new.area, c.visit-ran.new.sheet) =
+    let told : Reports 0 (visiting c.args.p (Outcomes c.args.wide) fresh c.args.budget (emptied c.args.wide c.args.table.now, fresh_sheet c.args.budget)) c.visit-ran.result (c.visit-ran.new.area, c.visit-ran.new.sheet) =
     reported _ _ _ c.args.table.now c.fresh.ensures c.row_width-w.ensures c.clear_front.ensures c.visit-ran.ensures.0 in
     rows_still_within _ _ _ c.args.table.now _ _ told _ c.row_width-w.ensures
 
 pub overflow_sub-budget : goal.overflow_sub-budget
 overflow_sub-budget c =
-    let told : Reports 0 (visiting c.args.p (Outcomes c.args.wide) fresh c.args.budget (emptied c.args.wide c.args.table.now, 0 ∷ c.args.budget ∷ [])) c.visit-ran.result (c.visit-ran.new.area, c.visit-ran.new.sheet) =
+    let told : Reports 0 (visiting c.args.p (Outcomes c.args.wide) fresh c.args.budget (emptied c.args.wide c.args.table.now, fresh_sheet c.args.budget)) c.visit-ran.result (c.visit-ran.new.area, c.visit-ran.new.sheet) =
     reported _ _ _ c.args.table.now c.fresh.ensures c.row_width-w.ensures c.clear_front.ensures c.visit-ran.ensures.0 in
     going_left _ _ _ _ _ told _ c.in-Going.is
 
 pub returns-in-Going : goal.returns-in-Going
 returns-in-Going c =
-    let told : Reports 0 (visiting c.args.p (Outcomes c.args.wide) fresh c.args.budget (emptied c.args.wide c.args.table.now, 0 ∷ c.args.budget ∷ [])) c.visit-ran.result (c.visit-ran.new.area, c.visit-ran.new.sheet) =
+    let told : Reports 0 (visiting c.args.p (Outcomes c.args.wide) fresh c.args.budget (emptied c.args.wide c.args.table.now, fresh_sheet c.args.budget)) c.visit-ran.result (c.visit-ran.new.area, c.visit-ran.new.sheet) =
     reported _ _ _ c.args.table.now c.fresh.ensures c.row_width-w.ensures c.clear_front.ensures c.visit-ran.ensures.0 in
     let machines_cleared : c.clear-2.new.table ≡ replicate (length c.args.machines.now) 0 = cleared_again c.clear-2.ensures c.visit-ran.auto.table c.clear.auto.table in
     too_many _ _ _ _ _ _ told _ _ machines_cleared _ c.row_width-w.ensures _ c.clear_front-in-Going.ensures _ c.in-Going.is (rw c.row_width-w.ensures at c.if-met-room.false) _ c.nothing_listed.ensures
@@ -68,13 +68,13 @@ overflow_mul-w-2 c = let l = rows_within c.args.wide c.args.table.now _ c.row_wi
 
 pub clear_front-requires-2 : goal.clear_front-requires-2
 clear_front-requires-2 c =
-    let told : Reports 0 (visiting c.args.p (Outcomes c.args.wide) fresh c.args.budget (emptied c.args.wide c.args.table.now, 0 ∷ c.args.budget ∷ [])) c.visit-ran.result (c.visit-ran.new.area, c.visit-ran.new.sheet) =
+    let told : Reports 0 (visiting c.args.p (Outcomes c.args.wide) fresh c.args.budget (emptied c.args.wide c.args.table.now, fresh_sheet c.args.budget)) c.visit-ran.result (c.visit-ran.new.area, c.visit-ran.new.sheet) =
     reported _ _ _ c.args.table.now c.fresh.ensures c.row_width-w.ensures c.clear_front.ensures c.visit-ran.ensures.0 in
     rows_still_within _ _ _ c.args.table.now _ _ told _ c.row_width-w.ensures
 
 pub returns : goal.returns
 returns c =
-    let told : Reports 0 (visiting c.args.p (Outcomes c.args.wide) fresh c.args.budget (emptied c.args.wide c.args.table.now, 0 ∷ c.args.budget ∷ [])) c.visit-ran.result (c.visit-ran.new.area, c.visit-ran.new.sheet) =
+    let told : Reports 0 (visiting c.args.p (Outcomes c.args.wide) fresh c.args.budget (emptied c.args.wide c.args.table.now, fresh_sheet c.args.budget)) c.visit-ran.result (c.visit-ran.new.area, c.visit-ran.new.sheet) =
     reported _ _ _ c.args.table.now c.fresh.ensures c.row_width-w.ensures c.clear_front.ensures c.visit-ran.ensures.0 in
     let machines_cleared : c.clear-2.new.table ≡ replicate (length c.args.machines.now) 0 = cleared_again c.clear-2.ensures c.visit-ran.auto.table c.clear.auto.table in
     not_finished _ _ _ _ _ _ told _ _ machines_cleared _ c.row_width-w.ensures _ c.clear_front-2.ensures c.in_default.not-Going _ c.nothing_listed-2.ensures

@@ -15,7 +15,7 @@ no_outcomes e = eqb-false 0 1 refl cc
 
 pub visit-ran-requires : goal.visit-ran-requires
 visit-ran-requires c =
-    (rw c.fresh.ensures (ready_fresh _ _ _ c.requires.0 refl (λ e. c.requires.1) (λ wide e. absurd (no_outcomes e))), cleared_holds _ _ _ (length c.args.table.now) _ c.clear.ensures)
+    (rw c.fresh.ensures (ready_fresh _ _ _ c.requires.0 (λ e. c.requires.1) (λ wide e. absurd (no_outcomes e))), cleared_holds _ _ _ (length c.args.table.now) _ c.clear.ensures)
 
 pub overflow_sub-result : goal.overflow_sub-result
 overflow_sub-result c = going_left _ _ _ _ _ c.visit-ran.ensures.0 _ c.in-Going.is

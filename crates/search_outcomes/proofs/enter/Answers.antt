@@ -1,10 +1,7 @@
 -- `search_outcomes::enter` meets its contract: the place of the outcome among the rows decides.
 -- Assumes nothing.
 use mathlib.Core.Path.{refl, sym}
-use Prim.Native.Nat.{◌+◌}
 use native.Mathlib.Omega.{arith}
-use lib.ListN.{get_or}
-use lib.Seq.{get_or-set_other}
 use Rattle.search_outcomes.proofs.Rows.{width_least}
 use Rattle.search_outcomes.proofs.Cases.{noted_full}
 use Rattle.search_outcomes.proofs.Noting.{Found, found, orderly_rising, found_before, found_old, found_room, found_key, found_few, same_there, other_there, found_there, found_over, found_in}
@@ -93,7 +90,6 @@ returns c =
     let known : Found c.args.wide c.args.key.now (c.args.area.now, c.args.sheet.now) c.smaller_rows-k.result =
     found _ _ _ _ _ _ c.row_width-w.ensures refl c.requires.0 c.if-room-met.false c.smaller_rows-k.ensures in
     let s = c.args in
-    let b = get_or-set_other s.sheet.now 0 1 (get_or s.sheet.now 0 0 + 1) 0 (λ z. omega arith) in
     found_in known s.rest
     (elim c.if-k-n.branch [
       | then-k-n+else-is_same w ↦ λ h. other_there _ c.row_width-w.ensures refl w.is_same.ensures w.if-is_same.false

@@ -130,7 +130,7 @@ returns-in-Found t c =
     ] in
     let trusted : Trusted c.args.p c.args.aim (c.match-arrive.area, c.match-arrive.sheet) c.loop-k.table c.match-arrive.table = elim c.match-arrive.branch [
       | in-Over v ↦ trusted_as c.loop-k.invariant.1.holds refl v.table-is (pair_same v.area-is v.sheet-is)
-      | in-Ending v ↦ trusted_as (stays_true _ _ _ _ _ _ (let e = c.loop-k.invariant.0.ready.two in omega arith) visited v.ran-is c.loop-k.invariant.1.holds) refl v.table-is refl
+      | in-Ending v ↦ trusted_as (stays_true _ _ _ _ _ _ visited v.ran-is c.loop-k.invariant.1.holds) refl v.table-is refl
       | in-Open v ↦ trusted_as v.walk-ran.ensures.1 v.walk-ran.auto.table v.table-is (pair_same v.area-is v.sheet-is)
     ] in
     (answers c.loop-i.invariant.0 (joins c.loop-i.invariant.0 c.loop-i-test.true _ _ (code_at c.loop-i.invariant.0 c.loop-i-test.true _) (thread_at c.loop-i.invariant.0 c.loop-i-test.true _) c.next_try-k.result c.next_try-k.ensures.0) (finds u c.loop-k-test.true _ c.step_at-step.ensures c.attempt-r.result.moved q.0 c.in-Ok.is _ z c.match-arrive.ran _ visited _ _ c.in-Found.is _ (ap (λ (l : List ℕ). (l, c.match-arrive.sheet)) c.put_step.ensures)), question_true _ _ _ _ _ (asks u c.loop-k-test.true _ c.step_at-step.ensures c.attempt-r.result.moved q.0 c.in-Ok.is _ z c.match-arrive.ran _ visited _ _ c.in-Found.is) trusted.holds)
@@ -152,7 +152,7 @@ returns-in-Out t c =
     ] in
     let trusted : Trusted c.args.p c.args.aim (c.match-arrive.area, c.match-arrive.sheet) c.loop-k.table c.match-arrive.table = elim c.match-arrive.branch [
       | in-Over v ↦ trusted_as c.loop-k.invariant.1.holds refl v.table-is (pair_same v.area-is v.sheet-is)
-      | in-Ending v ↦ trusted_as (stays_true _ _ _ _ _ _ (let e = c.loop-k.invariant.0.ready.two in omega arith) visited v.ran-is c.loop-k.invariant.1.holds) refl v.table-is refl
+      | in-Ending v ↦ trusted_as (stays_true _ _ _ _ _ _ visited v.ran-is c.loop-k.invariant.1.holds) refl v.table-is refl
       | in-Open v ↦ trusted_as v.walk-ran.ensures.1 v.walk-ran.auto.table v.table-is (pair_same v.area-is v.sheet-is)
     ] in
     (answers c.loop-i.invariant.0 (joins c.loop-i.invariant.0 c.loop-i-test.true _ _ (code_at c.loop-i.invariant.0 c.loop-i-test.true _) (thread_at c.loop-i.invariant.0 c.loop-i-test.true _) c.next_try-k.result c.next_try-k.ensures.0) (runs_out u c.loop-k-test.true _ c.step_at-step.ensures c.attempt-r.result.moved q.0 c.in-Ok.is _ z c.match-arrive.ran _ visited c.in-Out.is), trusted.holds)
@@ -225,7 +225,7 @@ loop-k-preserved t c =
           ] in
           let trusted : Trusted c.args.p c.args.aim (w.match-arrive.area, w.match-arrive.sheet) c.loop-k.table w.match-arrive.table = elim w.match-arrive.branch [
             | in-Over v ↦ trusted_as c.loop-k.invariant.1.holds refl v.table-is (pair_same v.area-is v.sheet-is)
-            | in-Ending v ↦ trusted_as (stays_true _ _ _ _ _ _ (let e = c.loop-k.invariant.0.ready.two in omega arith) visited v.ran-is c.loop-k.invariant.1.holds) refl v.table-is refl
+            | in-Ending v ↦ trusted_as (stays_true _ _ _ _ _ _ visited v.ran-is c.loop-k.invariant.1.holds) refl v.table-is refl
             | in-Open v ↦ trusted_as v.walk-ran.ensures.1 v.walk-ran.auto.table v.table-is (pair_same v.area-is v.sheet-is)
           ] in (
             on u _ q.1 _ _ _ _ _ c.match-r.y same_memory others c.loop-k-test.true (goes_on u c.loop-k-test.true _ c.step_at-step.ensures c.attempt-r.result.moved q.0 w.in-Ok.is _ z w.match-arrive.ran _ visited _ w.in-Going.is) (pair_same w.area-is w.sheet-is) w.rest-is nx,
@@ -247,11 +247,11 @@ returns-then-table-lt-SLOT t c =
 
 pub overflow_sub-left : goal.overflow_sub-left
 overflow_sub-left t c =
-    rest_within _ _ _ _ _ (let e = c.requires.0.two in omega arith) (ends c.loop-i.invariant.0 c.loop-i-test.false) refl
+    rest_within _ _ _ _ _ (ends c.loop-i.invariant.0 c.loop-i-test.false) refl
 
 pub returns : goal.returns
 returns t c =
     let l = c.loop-i.invariant.1.as_long in
     let s = c.requires.1.has_slot (let h = c.if-table-lt-SLOT.false in omega arith) in
     let u = ends c.loop-i.invariant.0 c.loop-i-test.false in
-    (u, still_true _ _ _ _ _ (let e = c.requires.0.two in omega arith) u refl c.requires.0.well _ c.loop-i.invariant.1.holds (omega (arith, c.ranges.left)) _ (omega arith) (whole_written c.loop-i.invariant.0 _ _ _ c.keep.ensures))
+    (u, still_true _ _ _ _ _ u refl c.requires.0.well _ c.loop-i.invariant.1.holds (omega (arith, c.ranges.left)) _ (omega arith) (whole_written c.loop-i.invariant.0 _ _ _ c.keep.ensures))

@@ -1,7 +1,6 @@
 -- `search_visits::visit` meets its contract.
 -- Assumes nothing.
 use mathlib.Core.Path.{refl, ◌∙◌}
-use native.Mathlib.Omega.{arith}
 use Rattle.search_outcomes.proofs.Laws.{formed_placed}
 use Rattle.search_arrivals.proofs.Known.{is_over, is_ending, is_open, stays_true}
 use Rattle.search_visits.proofs.Lent.{ending_noted}
@@ -23,4 +22,4 @@ returns-in-Over c = (is_over _ _ _ _ _ _ _ _ (c.arrive.ensures _ c.requires.1) _
 pub returns-in-Ending : goal.returns-in-Ending
 returns-in-Ending c =
     let told = (is_ending _ _ _ _ _ _ _ _ (c.arrive.ensures _ c.requires.1) _ _ c.in-Ending.is _ refl _ (c.note.ensures ∙ ending_noted _ _ c.requires.0.well _ _ _)).1 in
-    (told, stays_true _ _ _ _ _ _ (let e = c.requires.0.two in omega arith) told refl c.requires.1)
+    (told, stays_true _ _ _ _ _ _ told refl c.requires.1)
