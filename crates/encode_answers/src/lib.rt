@@ -28,7 +28,8 @@ pub fn put_read(area: &mut [u8], r: Result<Program, Refused>)
     ensures { area.new ≡ put 0 (read_bytes r) area.old }
 {
     put_bytes(area, 0, &[refused_number(&r), 0, 0, 0]);
-    put_u32(area, 4, refused_place(&r));
+    let place = refused_place(&r);
+    put_u32(area, 4, place);
     match r {
         Ok(p) => put_program(area, 8, p),
         Err(_) => put_program(area, 8, Program::default()),

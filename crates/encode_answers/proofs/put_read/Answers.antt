@@ -10,7 +10,7 @@ unfolding read_bytes
 returns-in-Ok c =
     rw c.in-Ok.is
     (put_then _ _ _ _ _ (rw (c.refused_number.ensures, c.in-Ok.is) at c.put_bytes.ensures)
-    (put_then _ _ _ _ _ (rw (c.refused_place.ensures, c.in-Ok.is) at c.put_u32.ensures)
+    (put_then _ _ _ _ _ (rw (c.refused_place-place.ensures, c.in-Ok.is) at c.put_u32.ensures)
     c.put_program.ensures
     (omega arith) (omega arith))
     (omega arith) (omega arith))
@@ -20,7 +20,7 @@ unfolding read_bytes
 returns-in-Err c =
     rw c.in-Err.is
     (put_then _ _ _ _ _ (rw (c.refused_number.ensures, c.in-Err.is) at c.put_bytes.ensures)
-    (put_then _ _ _ _ _ (rw (c.refused_place.ensures, c.in-Err.is) at c.put_u32.ensures)
+    (put_then _ _ _ _ _ (rw (c.refused_place-place.ensures, c.in-Err.is) at c.put_u32.ensures)
     (rw c.default.ensures at c.put_program-in-Err.ensures)
     (omega arith) (omega arith))
     (omega arith) (omega arith))
