@@ -111,7 +111,9 @@ fn both_ways(c: Code, i: u8, m: Memory, s: Thread, q: Sought) -> Reached
             cares: passed(rests, w.count),
         };
     }
-    if let Some(fork) = w.fork && rests.of_register(fork.held) == 0 {
+    if let Some(fork) = w.fork
+        && rests.of_register(fork.held) == 0
+    {
         let o = search_runs(c, i, m, at_position(w.thread, fork.other), q.after(met));
         if met == o.met {
             return Reached {
@@ -145,7 +147,11 @@ fn search_at(c: Code, i: u8, m: Memory, s: Thread, x: Instr, q: Sought) -> Reach
         if worth_asking(x, c, s) {
             let load = x;
             if let Instr::Load(k, r, a, b) = load
-                && let Some(found) = told(r, search_runs(c, i, m, unread(k, r, a, b, m, s), q), q.met)
+                && let Some(found) = told(
+                    r,
+                    search_runs(c, i, m, unread(k, r, a, b, m, s), q),
+                    q.met,
+                )
             {
                 return found;
             }

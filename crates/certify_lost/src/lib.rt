@@ -103,7 +103,9 @@ pub fn fruitless(c: Code, m: Memory, s: Thread, hole: u8, from: u16, top: u16) -
     requires { (c.count ≤ 16) × (m.count ≤ 16) }
     ensures { IfSome result (λ r. Fruitless c m s hole from top r.of) }
 {
-    if hole != 0 && let Some(rests) = lost(c, s, filling(hole, from, top)) {
+    if hole != 0
+        && let Some(rests) = lost(c, s, filling(hole, from, top))
+    {
         return Some(rests);
     }
     promise_lost(c, m, s, hole)

@@ -43,10 +43,7 @@ impl Tried {
     {
         let met = self.met;
         let cares = self.cares;
-        Reached {
-            met,
-            cares,
-        }
+        Reached { met, cares }
     }
 
     // The tries with these numbers met, and these cares. Each field is named, since `..self` takes more of the stack of a search of runs.

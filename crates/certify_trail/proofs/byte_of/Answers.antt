@@ -3,7 +3,6 @@
 use mathlib.Core.Path.{◌≡◌}
 use native.Mathlib.Omega.{arith}
 use Rattle.certify_trail.specs.Trail.{byte_of}
-
 use Rattle.certify_trail.proofs.byte_of.Goals as goal
 
 pub returns-in-0 : goal.returns-in-0
