@@ -159,6 +159,7 @@ fn search_at(c: Code, i: u8, m: Memory, s: Thread, x: Instr, q: Sought) -> Reach
     }
     let mut t = earliest(x, m, s);
     let mut r = untried(filled(c, i, m, s, x, q));
+    // No `for` over a range: `following` passes over times.
     while t <= 16 {
         if !hopeless(c, m, s, x, t, r) {
             r = try_at(c, i, m, s, x, t, r, q);

@@ -20,6 +20,7 @@ fn other_values(m: Memory, p: u16, l: u8, v: u8) -> u32
 {
     let mut care = 0u32;
     let mut u = after(p, 0);
+    // No `for`: the times of a set come from `after`, and an iterator over them would be a type of its own for the same lines.
     while u <= m.count {
         let w = m.message_at(u);
         if (w.location == l) & (w.value != v) {

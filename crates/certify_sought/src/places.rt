@@ -18,6 +18,7 @@ fn locations(m: Memory, p: u16) -> u16
 {
     let mut set = 0u16;
     let mut u = after(p, 0);
+    // No `for`: the times of a set come from `after`, and an iterator over them would be a type of its own for the same lines.
     while u <= m.count {
         set = marking(set, m.message_at(u).location % 16);
         u = after(p, u);

@@ -155,6 +155,7 @@ pub fn straight(c: Code, s: Thread, both_ways: bool) -> Walk
     let mut views = s.views;
     let mut steps = [Step::NONE; 16];
     let mut count = 0usize;
+    // No `for` over a range: a branch passes over instructions.
     while n < c.count {
         let i = c.instructions[n as usize];
         if (i.op == 1) | (i.op == 2) {

@@ -90,6 +90,7 @@ pub fn passed_over(later: u16, m: Memory, s: Thread, l: u8, t: u8, care: u32) ->
     let view = view_by(pair, t);
     let mut left = later;
     let mut u = after(later, t);
+    // No `for`: the times of a set come from `after`, and an iterator over them would be a type of its own for the same lines.
     while u <= 16 {
         if no_better(care, view, value, view_by(pair, u), read_value(m, u)) {
             left = left_out(left, u);

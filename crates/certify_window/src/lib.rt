@@ -32,6 +32,7 @@ fn next_kept(m: Memory, p: u16, l: u8, v: u8, t: u8) -> u8
     ensures { NextKept m p l v t result }
 {
     let mut u = after(p, t);
+    // No `for`: the times of a set come from `after`, and an iterator over them would be a type of its own for the same lines.
     while u <= m.count {
         let w = m.message_at(u);
         if (w.location == l) & (w.value == v) {
