@@ -48,7 +48,14 @@ pub fn execute(x: Instr, m: Memory, t: u8, s: Thread) -> Result<Thread, Refusal>
 }
 
 // A store of thread i that appends its own message to m and fulfils it at once.
-pub fn own_store(k: StoreMode, a: Operand, d: Operand, m: Memory, i: u8, s: Thread) -> Result<Thread, Refusal>
+pub fn own_store(
+    k: StoreMode,
+    a: Operand,
+    d: Operand,
+    m: Memory,
+    i: u8,
+    s: Thread,
+) -> Result<Thread, Refusal>
     requires { (s.position + 1 < 256) × ((m.count < 16) × (s.promises < 2 ^ m.count)) }
     ensures { result ≡ ruled (own_store k a d m i s) }
 {

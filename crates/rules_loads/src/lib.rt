@@ -98,7 +98,15 @@ pub fn load_done(k: LoadMode, r: u8, m: Memory, t: u8, l: u8, va: u8, post: u8, 
 }
 
 // A load into r at time t; l is the location, va the address view.
-pub fn load_at(k: LoadMode, r: u8, m: Memory, t: u8, l: u8, va: u8, s: Thread) -> Result<Thread, Refusal>
+pub fn load_at(
+    k: LoadMode,
+    r: u8,
+    m: Memory,
+    t: u8,
+    l: u8,
+    va: u8,
+    s: Thread,
+) -> Result<Thread, Refusal>
     requires { (s.position + 1 < 256) × ((m.count ≤ 16) × (l < 16)) }
     ensures { result ≡ ruled (load_at k r m t l va s) }
 {

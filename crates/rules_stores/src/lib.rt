@@ -85,7 +85,16 @@ pub fn store_done(k: StoreMode, t: u8, l: u8, va: u8, vd: u8, s: Thread) -> Thre
 }
 
 // A store at time t; l is the location, v the value, va and vd the views of address and data.
-pub fn store_at(k: StoreMode, m: Memory, t: u8, l: u8, v: u8, va: u8, vd: u8, s: Thread) -> Result<Thread, Refusal>
+pub fn store_at(
+    k: StoreMode,
+    m: Memory,
+    t: u8,
+    l: u8,
+    v: u8,
+    va: u8,
+    vd: u8,
+    s: Thread,
+) -> Result<Thread, Refusal>
     requires { (s.position + 1 < 256) × ((m.count ≤ 16) × (l < 16)) }
     ensures { result ≡ ruled (store_at k m t l v va vd s) }
 {
