@@ -6,18 +6,21 @@ use std::io;
 const VALUES: [u8; 12] = [0, 1, 2, 3, 4, 5, 7, 8, 15, 16, 17, 255];
 
 fn cut(rt: &impl Print, f: File) -> io::Result<()> {
-    for n in 0..f.len {
+    let all = f.bytes();
+    for n in 0..all.len() {
         print!(rt; "cut-{n}")?;
-        read(rt, &f.bytes[..n])?;
+        read(rt, &all[..n])?;
     }
     Ok(())
 }
 
 fn set(rt: &impl Print, f: File) -> io::Result<()> {
-    for at in 0..f.len {
+    for at in 0..f.bytes().len() {
         for v in VALUES {
             let mut g = f;
-            g.bytes[at] = v;
+            if let Some(b) = g.bytes.get_mut(at) {
+                *b = v;
+            }
             print!(rt; "set-{at}-{v}")?;
             read(rt, g.bytes())?;
         }

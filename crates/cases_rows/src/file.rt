@@ -8,10 +8,9 @@ pub struct File {
     pub bytes: [u8; 700],
     pub len: usize,
     // The first digit of a byte whose second one is still to come, as its upper half.
-    high: Option<u8>,
+    pub high: Option<u8>,
     // Something was no byte, or there was no room. The bytes around it stay: a row that begins with ! is about them.
-    bad: bool,
-    pub ghost room: { len ≤ 700 },
+    pub bad: bool,
 }
 
 impl File {
@@ -74,7 +73,7 @@ impl File {
     pub fn bytes(&self) -> &[u8]
         ensures { result.now ≡ take self.now.len self.now.bytes }
     {
-        &self.bytes[..self.len]
+        &self.bytes[..self.len.min(700)]
     }
 
     // The bytes, where all of them can be read.

@@ -115,8 +115,8 @@ pub fn listing_byte(r: Result<outcomes::Answer, Refused>) -> u8
     ensures { result ≡ listing_byte r }
 {
     match r {
-        Ok(a) => {
-            let verdict = a.verdict;
+        Ok(listed) => {
+            let verdict = listed.verdict;
             match verdict {
                 Listing::Finished => 1,
                 Listing::TooMany => 0,
@@ -131,8 +131,8 @@ pub fn listing_refusal(r: Result<outcomes::Answer, Refused>) -> u8
     ensures { result ≡ listing_refusal r }
 {
     match r {
-        Ok(a) => {
-            let verdict = a.verdict;
+        Ok(listed) => {
+            let verdict = listed.verdict;
             match verdict {
                 Listing::Finished => 0,
                 Listing::TooMany => Refusal::ManyOutcomes.number(),
@@ -147,7 +147,7 @@ pub fn listing_count(r: Result<outcomes::Answer, Refused>) -> u64
     ensures { result ≡ listing_count r }
 {
     match r {
-        Ok(a) => a.count,
+        Ok(listed) => listed.count,
         Err(_) => 0,
     }
 }
@@ -156,7 +156,7 @@ pub fn outcomes_number(r: Result<outcomes::Answer, Refused>) -> usize
     ensures { result ≡ outcomes_number r }
 {
     match r {
-        Ok(a) => a.number,
+        Ok(listed) => listed.number,
         Err(_) => 0,
     }
 }

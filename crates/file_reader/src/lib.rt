@@ -135,7 +135,7 @@ pub fn read(file: &[u8]) -> Result<Program, Refused>
     ensures { result ≡ file_read (read_file file.now) }
 {
     let header = read_header(file)?;
-    let threads = read_threads(file, header)?;
+    let threads = read_threads(file, header.program.threads as usize, header)?;
     let question = read_question(file, threads)?;
     read_end(file, question)
 }

@@ -3,7 +3,7 @@
 
 ghost use Rattle.std.specs.Prelude.{◌≡◌, ◌+◌, ◌≤◌, ◌<◌, length};
 ghost use Rattle.program.specs.Program.{code_of};
-ghost use Rattle.program.specs.File.{instruction_of, with_code, with_instruction, read_each, read_instruction, read_thread, read_body};
+ghost use Rattle.program.specs.File.{instruction_of, with_code, with_instruction, read_each, read_instruction, read_thread};
 ghost use Rattle.file_cursor.specs.Cursors.{cursor_of, reading_of, Standing};
 
 use file_cursor::{Cursor, marked};
@@ -114,13 +114,12 @@ fn read_thread(file: &[u8], i: usize, c: Cursor) -> Result<Cursor, Refused>
     read_instructions(file, i, n as usize, start)
 }
 
-// The threads of the program, whose header is read.
-pub fn read_threads(file: &[u8], start: Cursor) -> Result<Cursor, Refused>
-    requires { Standing file.now start }
-    ensures { result ≡ cursor_of (read_body file.now (reading_of start)) }
+pub fn read_threads(file: &[u8], n: usize, start: Cursor) -> Result<Cursor, Refused>
+    requires { (n ≤ 4) × Standing file.now start }
+    ensures { result ≡ cursor_of (read_each (read_thread file.now) n 0 (reading_of start)) }
 {
     let mut c = start;
-    for i in 0..start.program.threads as usize {
+    for i in 0..n {
         c = read_thread(file, i, c)?;
     }
     Ok(c)
