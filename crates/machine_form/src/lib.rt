@@ -27,27 +27,13 @@ fn unused_message(w: Message) -> bool
     (w.location == 0) & (w.value == 0) & (w.thread == 0)
 }
 
-// An entry of memory: a message, or not used.
-fn message_entry(threads: u8, used: bool, w: Message) -> bool
-    ensures { result ≡ cond used (message_test threads w) (unused_message w) }
-{
-    if used {
-        message_test(threads, w)
-    } else {
-        unused_message(w)
-    }
-}
-
 fn memory_test(threads: u8, m: Memory) -> bool
     ensures { result ≡ memory_test threads m }
 {
-    let mut ok = true;
-    for k in 0..16 {
-        let j = k as usize;
-        let w = m.messages[j];
-        ok = message_entry(threads, k < m.count, w) & ok;
-    }
-    (m.count <= 16) & ok
+    let Some((used, spare)) = m.messages.split_at_checked(m.count as usize) else {
+        return false;
+    };
+    used.iter().all(|w| message_test(threads, *w)) & spare.iter().all(|w| unused_message(*w))
 }
 
 // ---- a thread's views: each is at most `n`
@@ -60,33 +46,19 @@ fn views_test(n: u8, w: Views) -> bool
 fn registers_test(n: u8, s: Thread) -> bool
     ensures { result ≡ below (λ k. leb (get_or s.registers k fresh_register).view n) 8 }
 {
-    let mut ok = true;
-    for k in 0..8 {
-        let w = s.registers[k];
-        ok = (w.view <= n) & ok;
-    }
-    ok
+    s.registers.iter().all(|w| w.view <= n)
 }
 
 fn coherence_test(n: u8, s: Thread) -> bool
     ensures { result ≡ below (λ k. leb (view_at s.coherence k) n) 16 }
 {
-    let mut ok = true;
-    for k in 0..16 {
-        ok = (s.coherence[k] <= n) & ok;
-    }
-    ok
+    s.coherence.iter().all(|v| *v <= n)
 }
 
 fn forward_test(n: u8, s: Thread) -> bool
     ensures { result ≡ below (λ k. let w = get_or s.forward k fresh_forward in leb w.time n && leb w.view n) 16 }
 {
-    let mut ok = true;
-    for k in 0..16 {
-        let w = s.forward[k];
-        ok = ((w.time <= n) & (w.view <= n)) & ok;
-    }
-    ok
+    s.forward.iter().all(|w| (w.time <= n) & (w.view <= n))
 }
 
 // ---- a thread's promises
@@ -110,14 +82,10 @@ fn own_test(i: u8, m: Memory, p: u16) -> bool
     requires { m.count ≤ 16 }
     ensures { result ≡ below (λ k. own_test i m p (suc k)) m.count }
 {
-    let n = m.count;
-    let mut ok = true;
-    for k in 0..n {
-        let j = k as usize;
-        let w = m.messages[j];
-        ok = own_entry(i, p, k, w) & ok;
-    }
-    ok
+    m.messages[..m.count as usize]
+        .iter()
+        .enumerate()
+        .all(|(k, w)| own_entry(i, p, k as u8, *w))
 }
 
 // ---- a thread
@@ -140,12 +108,7 @@ fn thread_test(c: Code, i: u8, m: Memory, s: Thread) -> bool
 fn unused_registers(s: Thread) -> bool
     ensures { result ≡ below (λ k. let w = get_or s.registers k fresh_register in eqb w.value 0 && eqb w.view 0) 8 }
 {
-    let mut ok = true;
-    for k in 0..8 {
-        let w = s.registers[k];
-        ok = ((w.value == 0) & (w.view == 0)) & ok;
-    }
-    ok
+    s.registers.iter().all(|w| (w.value == 0) & (w.view == 0))
 }
 
 // A view or a time that is at most 0 is 0.
@@ -178,12 +141,10 @@ fn threads_test(p: Program, x: Machine) -> bool
     requires { x.memory.count ≤ 16 }
     ensures { result ≡ below (λ i. cond (ltb i p.threads) (thread_test (code_of p i) i x.memory (thread_of x i)) (unused_thread (thread_of x i))) 4 }
 {
-    let m = x.memory;
-    let mut ok = true;
-    for i in 0..4 {
-        ok = thread_entry(p, i, m, x.thread_of(i)) & ok;
-    }
-    ok
+    x.threads
+        .iter()
+        .enumerate()
+        .all(|(i, s)| thread_entry(p, i as u8, x.memory, *s))
 }
 
 // ---- THE MACHINE

@@ -4,8 +4,8 @@
 
 ghost use Rattle.std.specs.Prelude.{◌≡◌, true, cond, ◌&&◌, ◌+◌, ◌<◌, ◌≤◌, eqb, ltb, get_or};
 ghost use Rattle.program.specs.Tests.{below};
-ghost use Rattle.program.specs.Program.{no_condition, instruction_at, code_of};
-ghost use Rattle.program.specs.Counts.{one_store, stores_from, stores};
+ghost use Rattle.program.specs.Program.{no_condition, code_of};
+ghost use Rattle.program.specs.Counts.{stores_from, stores};
 ghost use Rattle.program.specs.WellFormed.{instruction_test, condition_test, unused_instruction, unused_condition, code_test, program_test};
 
 use file_range::{condition_fault, instruction_fault};
@@ -41,13 +41,11 @@ fn instruction_entry(n: u8, k: u8, i: Instruction) -> bool
 fn code_test(c: Code) -> bool
     ensures { result ≡ code_test c }
 {
-    let mut ok = true;
-    for k in 0..16 {
-        let j = k as usize;
-        let i = c.instructions[j];
-        ok = instruction_entry(c.count, k, i) & ok;
-    }
-    (c.count <= 16) & ok
+    (c.count <= 16)
+        & c.instructions
+            .iter()
+            .enumerate()
+            .all(|(k, i)| instruction_entry(c.count, k as u8, *i))
 }
 
 // The code of thread `i`: a thread that is not used has no instructions.
@@ -60,44 +58,27 @@ fn code_entry(threads: u8, i: u8, c: Code) -> bool
 fn codes_test(p: Program) -> bool
     ensures { result ≡ below (λ i. let c = code_of p i in code_test c && cond (ltb i p.threads) true (eqb c.count 0)) 4 }
 {
-    let mut ok = true;
-    for i in 0..4 {
-        ok = code_entry(p.threads, i, p.code_of(i)) & ok;
-    }
-    ok
+    p.codes
+        .iter()
+        .enumerate()
+        .all(|(i, c)| code_entry(p.threads, i as u8, *c))
 }
 
 // ---- the stores
-// 1 for a store at position `k`, 0 for anything else.
-fn store_at(c: Code, k: u8) -> u8
-    ensures { result ≡ one_store (instruction_at c k) }
-{
-    if k < 16 {
-        c.instruction_at(k).one_store()
-    } else {
-        0
-    }
-}
-
 fn code_stores(c: Code) -> u8
     ensures { result ≡ stores_from c 0 }
 {
-    let n = c.count;
-    let mut found = 0;
-    for k in 0..n {
-        found += store_at(c, k);
-    }
-    found
+    let used = c.instructions.iter().take(c.count as usize);
+    used.filter(|i| i.op == 2).count() as u8
 }
 
 fn program_stores(p: Program) -> u16
     requires { p.threads ≤ 4 }
     ensures { result ≡ stores p }
 {
-    let n = p.threads;
     let mut found = 0;
-    for i in 0..n {
-        found += code_stores(p.code_of(i)) as u16;
+    for c in &p.codes[..p.threads as usize] {
+        found += code_stores(*c) as u16;
     }
     found
 }
@@ -129,13 +110,11 @@ fn condition_entry(threads: u8, asked: bool, q: Condition) -> bool
 fn question_test(p: Program) -> bool
     ensures { result ≡ below (λ k. let q = get_or p.question k no_condition in cond (ltb k p.conditions) (condition_test p.threads q) (unused_condition q)) 8 }
 {
-    let mut ok = true;
-    for k in 0..8 {
-        let j = k as usize;
-        let q = p.question[j];
-        ok = condition_entry(p.threads, k < p.conditions, q) & ok;
-    }
-    ok
+    let asked = p.conditions as usize;
+    p.question
+        .iter()
+        .enumerate()
+        .all(|(k, q)| condition_entry(p.threads, k < asked, *q))
 }
 
 // ---- THE PROGRAM

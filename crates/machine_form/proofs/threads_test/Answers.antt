@@ -1,13 +1,27 @@
--- `machine_form::threads_test` meets its contract: the loop has tested the first i threads.
+-- `machine_form::threads_test` meets its contract: all entries are all places.
 -- Assumes nothing.
-use Rattle.program.proofs.Loops.{passed_none, passed_more, passed_all}
+use mathlib.Core.Path.{◌≡◌, ◌∙◌}
+use mathlib.Core.Bool.{cond}
+use Prim.Native.Nat.{ℕ}
+use lib.Dec.{ltb}
+use lib.ListN.{length}
+use Rattle.std.proofs.Common.{rules, tests}
+use Rattle.std.proofs.lemmas.Iterator.{YieldsList-from_slice}
+use Rattle.std.proofs.lemmas.Iterator.Consumers.{YieldsList-from_enumerate}
+use Rattle.std.proofs.lemmas.Iterator.Search.{all_from_yields_List}
+use Rattle.program.specs.Program.{code_of}
+use Rattle.program.proofs.Arrays.{length_mapped}
+use Rattle.program_form.proofs.Loops.{all_places}
+use Rattle.machine.specs.declared.Thread.{Thread}
+use Rattle.machine.specs.State.{fresh_thread}
+use Rattle.machine.specs.WellFormed.{thread_test, unused_thread}
 use Rattle.machine_form.proofs.threads_test.Goals as goal
 
-pub loop-i-init : goal.loop-i-init
-loop-i-init c = passed_none
-
-pub loop-i-preserved : goal.loop-i-preserved
-loop-i-preserved c = passed_more c.loop-i.invariant c.loop-i-test.true (rw c.thread_of.ensures at c.thread_entry-ok.ensures)
-
 pub returns : goal.returns
-returns c = passed_all c.loop-i.invariant c.loop-i-test.false
+returns c =
+    let p = c.args.p in
+    let x = c.args.x in
+    let h : length x.threads ≡ 4 = search length_mapped depth 7 in
+    let f = λ (i : ℕ) (s : Thread). cond (ltb i p.threads) (thread_test (code_of p i) i x.memory s) (unused_thread s) in
+    let a = all_from_yields_List (λ (w : ℕ × Thread). f w.0 w.1) _ _ c.all.result c.all.ensures.ran (YieldsList-from_enumerate (YieldsList-from_slice x.threads cc) cc) (λ x b q k. search (rules, tests)) in
+    rw h at (a ∙ all_places f fresh_thread x.threads)

@@ -1,14 +1,17 @@
--- `machine_form::unused_registers` meets its contract: the loop has tested the first k registers.
+-- `machine_form::unused_registers` meets its contract: all entries are all places.
 -- Assumes nothing.
-use mathlib.Core.Path.{refl}
-use Rattle.program.proofs.Loops.{passed_none, passed_more, passed_all}
+use Rattle.std.proofs.Common.{rules, tests, ◌≡◌, ◌&&◌, eqb, length, ◌∙◌}
+use Rattle.std.proofs.lemmas.Iterator.{YieldsList-from_slice}
+use Rattle.std.proofs.lemmas.Iterator.Search.{all_from_yields_List}
+use Rattle.program.proofs.Arrays.{length_mapped}
+use Rattle.program_form.proofs.Loops.{all_below}
+use Rattle.machine.specs.declared.Register.{Register}
+use Rattle.machine.specs.State.{fresh_register}
 use Rattle.machine_form.proofs.unused_registers.Goals as goal
 
-pub loop-k-init : goal.loop-k-init
-loop-k-init c = passed_none
-
-pub loop-k-preserved : goal.loop-k-preserved
-loop-k-preserved c = passed_more c.loop-k.invariant c.loop-k-test.true refl
-
 pub returns : goal.returns
-returns c = passed_all c.loop-k.invariant c.loop-k-test.false
+returns c =
+    let h : length c.args.s.registers ≡ 8 = search length_mapped depth 7 in
+    let t = λ (w : Register). eqb w.value 0 && eqb w.view 0 in
+    let a = all_from_yields_List t _ _ c.all.result c.all.ensures.ran (YieldsList-from_slice c.args.s.registers cc) (λ x b q k. search (rules, tests)) in
+    rw h at (a ∙ all_below t fresh_register c.args.s.registers)

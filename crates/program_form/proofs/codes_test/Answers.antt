@@ -1,13 +1,26 @@
--- `program_form::codes_test` meets its contract: the loop has tested the codes of the first i threads.
+-- `program_form::codes_test` meets its contract: all entries are all places.
 -- Assumes nothing.
-use Rattle.program.proofs.Loops.{passed_none, passed_more, passed_all}
+use mathlib.Core.Path.{◌≡◌, ◌∙◌}
+use mathlib.Core.Bool.{true, cond, ◌&&◌}
+use Prim.Native.Nat.{ℕ}
+use lib.Dec.{ltb, eqb}
+use lib.ListN.{length}
+use Rattle.std.proofs.Common.{rules, tests}
+use Rattle.std.proofs.lemmas.Iterator.{YieldsList-from_slice}
+use Rattle.std.proofs.lemmas.Iterator.Consumers.{YieldsList-from_enumerate}
+use Rattle.std.proofs.lemmas.Iterator.Search.{all_from_yields_List}
+use Rattle.program.specs.declared.Code.{Code}
+use Rattle.program.specs.Program.{no_code, code_of}
+use Rattle.program.specs.WellFormed.{code_test}
+use Rattle.program.proofs.Arrays.{length_mapped}
+use Rattle.program_form.proofs.Loops.{all_places}
 use Rattle.program_form.proofs.codes_test.Goals as goal
 
-pub loop-i-init : goal.loop-i-init
-loop-i-init c = passed_none
-
-pub loop-i-preserved : goal.loop-i-preserved
-loop-i-preserved c = passed_more c.loop-i.invariant c.loop-i-test.true (rw c.code_of.ensures at c.code_entry-ok.ensures)
-
 pub returns : goal.returns
-returns c = passed_all c.loop-i.invariant c.loop-i-test.false
+unfolding code_of
+returns c =
+    let p = c.args.p in
+    let h : length p.codes ≡ 4 = search length_mapped depth 7 in
+    let f = λ (k : ℕ) (x : Code). code_test x && cond (ltb k p.threads) true (eqb x.count 0) in
+    let a = all_from_yields_List (λ (w : ℕ × Code). f w.0 w.1) _ _ c.all.result c.all.ensures.ran (YieldsList-from_enumerate (YieldsList-from_slice p.codes cc) cc) (λ x b q k. search (rules, tests)) in
+    rw h at (a ∙ all_places f no_code p.codes)
