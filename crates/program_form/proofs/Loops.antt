@@ -10,6 +10,12 @@ use lib.ListN.{length, get_or}
 use borrow.Author.Tests.{lt-ltb, le-ltb}
 use Rattle.std.proofs.Common.{take, drop}
 use Rattle.std.proofs.lemmas.List.{get_or-take, length-take-le}
+use denote.Param.Members.{Mut}
+use Rattle.std.proofs.Common.{Option}
+use Rattle.std.specs.Fn.{Called}
+use Rattle.std.specs.Iterator.{ChecksAll}
+use Rattle.std.proofs.lemmas.Iterator.{YieldsList}
+use Rattle.std.proofs.lemmas.Iterator.Search.{all_from_yields_List}
 use Rattle.std.specs.List.{list_all, enumerate_from, count_by}
 use Rattle.std.proofs.lemmas.Bool.Decides.{nat_tests}
 use Rattle.std.proofs.lemmas.List.Sums.{sum_by-cons}
@@ -115,3 +121,13 @@ module _ (c : Code) where
   stores_counted =
       let all : c.count - 0 ≡ c.count = omega arith in
       rw all (stores_left 0 c.count c.instructions (λ j. let e : 0 + j ≡ j = omega arith in rw e))
+
+-- what `all` answers over such a chain
+module _ {S A B F : Type 0} {steps : S → Option A → S → Type 0} {g : Mut F (A × Unit {0}) Bool} {s : S} {n : ℕ} (u : S) (f : F) (r : Bool) where
+  pub entries_pass : {v : A → B} (test : B → Bool) (d : B) (xs : List B) → ChecksAll steps g s f r u → YieldsList steps v s xs
+      → ((x : A) (b : Bool) (q : F) → Called g f (x, tt) b q → (q ≡ f) × (b ≡ test (v x))) → length xs ≡ n → r ≡ below (λ k. test (get_or xs k d)) n
+  entries_pass test d xs ran yields says full = rw full at (all_from_yields_List test u f r ran yields says ∙ all_below test d xs)
+
+  pub places_pass : {v : A → ℕ × B} (test : ℕ → B → Bool) (d : B) (xs : List B) → ChecksAll steps g s f r u → YieldsList steps v s (enumerate_from 0 xs)
+      → ((x : A) (b : Bool) (q : F) → Called g f (x, tt) b q → (q ≡ f) × (b ≡ test (v x).0 (v x).1)) → length xs ≡ n → r ≡ below (λ k. test k (get_or xs k d)) n
+  places_pass test d xs ran yields says full = rw full at (all_from_yields_List (λ p. test p.0 p.1) u f r ran yields says ∙ all_places test d xs)
