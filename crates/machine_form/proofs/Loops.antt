@@ -2,12 +2,10 @@
 -- Assumes nothing.
 use mathlib.Core.Path.{◌≡◌, refl, sym, ap₂, subst, ◌∙◌}
 use mathlib.Core.Bool.{true, ◌&&◌}
-use Prim.Native.Nat.{ℕ, zero, suc, ◌-◌, ◌*◌, ◌/◌, ◌%◌, ◌^◌, ◌≤◌}
-use native.Mathlib.Nat.{mod-eq_of_lt, one-mul}
+use Prim.Native.Nat.{ℕ, zero, suc, ◌-◌, ◌/◌, ◌%◌, ◌^◌, ◌≤◌}
 use native.Mathlib.Omega.{arith}
 use lib.Dec.{T, eqb, leb, leb→le}
 use lib.ListN.{get_or}
-use lib.Pow.{pow-lt}
 use borrow.Author.Tests.{lt-ltb, lt-leb, ne_eqb}
 use Rattle.theory_views.specs.Views.{view_at}
 use Rattle.program.specs.Tests.{below}
@@ -27,10 +25,6 @@ memory_room threads m e = leb→le m.count 16 (all_at _ (subst T (sym e) tt) 0)
 pub has_place : (p k : ℕ) → has p (suc k) ≡ eqb (p / 2 ^ k % 2) 1
 unfolding has
 has_place p k = let e : suc k - 1 ≡ k = omega arith in rw (lt-ltb 0 (suc k) (omega arith), e)
-
--- what the machine computes for `1u32 << n`
-pub shl_one : (n : ℕ) → n ≤ 16 → 1 * 2 ^ n % 4294967296 ≡ 2 ^ n
-shl_one n h = rw one-mul (mod-eq_of_lt (pow-lt {j = 32} (omega arith)))
 
 -- at most 0 is 0
 leb_zero : (a : ℕ) → leb a 0 ≡ eqb a 0
