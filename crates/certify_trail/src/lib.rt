@@ -69,7 +69,7 @@ pub fn run_of(k: Cares) -> Run
 {
     let of = k.of;
     let count = of[4].min(16);
-    let mut steps = [RunStep { kind: 0, time: 0 }; 16];
+    let mut steps = [RunStep::default(); 16];
     for n in 0..count {
         let from_end = count - n - 1;
         let step = byte_of(of[(from_end / 4) as usize], from_end % 4);

@@ -1,8 +1,7 @@
 // The bytes of each answer, written at the start of an area that has room for them.
 #![tactic(auto)]
 
-ghost use Rattle.std.specs.Prelude.{◌≡◌, [], ◌+◌, ◌≤◌, length};
-ghost use Rattle.certify_runs.specs.Values.{run_of};
+ghost use Rattle.std.specs.Prelude.{◌≡◌, ◌+◌, ◌≤◌, length};
 ghost use Rattle.encode_bytes.specs.Places.{put};
 ghost use Rattle.encode_numbers.specs.Cases.{search_steps};
 ghost use Rattle.encode_answers.specs.Value.{read_bytes, stepped_bytes, entry_bytes, entries_bytes, shown_bytes, certified_bytes, replayed_bytes, found_bytes, searched_bytes, within_bytes, listing_bytes, listed_bytes, listed_within_bytes};
@@ -76,15 +75,6 @@ fn put_entries(area: &mut [u8], at: usize, r: Run)
     put_each::<RunStep, Bytes, 16>(area, at, &r.steps);
 }
 
-fn no_run() -> Run
-    ensures { result ≡ run_of [] }
-{
-    Run {
-        steps: [RunStep { kind: 0, time: 0 }; 16],
-        count: 0,
-    }
-}
-
 fn put_shown(area: &mut [u8], refusal: u8, certified: u8, run: Run)
     requires { 36 ≤ length area.old }
     ensures { area.new ≡ put 0 (shown_bytes refusal certified run) area.old }
@@ -99,8 +89,8 @@ pub fn put_certified(area: &mut [u8], r: Result<Option<Run>, Refusal>)
 {
     match r {
         Ok(Some(run)) => put_shown(area, 0, 1, run),
-        Ok(None) => put_shown(area, 0, 0, no_run()),
-        Err(refusal) => put_shown(area, refusal.number(), 0, no_run()),
+        Ok(None) => put_shown(area, 0, 0, Run::default()),
+        Err(refusal) => put_shown(area, refusal.number(), 0, Run::default()),
     }
 }
 

@@ -9,7 +9,7 @@ pub mod threads;
 pub mod times;
 
 // A message of memory: a store of `thread`.
-#[derive(Clone, Copy)]
+#[derive(Clone, Copy, Default)]
 pub struct Message {
     pub location: u8,
     pub value: u8,
@@ -23,21 +23,21 @@ pub struct Memory {
     pub count: u8,
 }
 
-#[derive(Clone, Copy)]
+#[derive(Clone, Copy, Default)]
 pub struct Register {
     pub value: u8,
     pub view: u8,
 }
 
 // A location's forward pair: the time of the thread's last store there, and the view to read it with.
-#[derive(Clone, Copy)]
+#[derive(Clone, Copy, Default)]
 pub struct Forward {
     pub time: u8,
     pub view: u8,
 }
 
 // The views of a thread; `cap` and `rel` are CAP and Rel of the Promising-ARM paper (Pulte et al., PLDI 2019), the others have its names.
-#[derive(Clone, Copy)]
+#[derive(Clone, Copy, Default)]
 pub struct Views {
     pub rOld: u8,
     pub wOld: u8,

@@ -7,52 +7,31 @@ use crate::{Forward, Machine, Memory, Message, Register, Thread, Views};
 fn fresh_memory() -> Memory
     ensures { result ≡ fresh_memory }
 {
-    let w = Message {
-        location: 0,
-        value: 0,
-        thread: 0,
-    };
-    let messages = [w; 16];
     Memory {
+        messages: [Message::default(); 16],
         count: 0,
-        messages: messages,
     }
 }
 
 fn fresh_thread() -> Thread
     ensures { result ≡ fresh_thread }
 {
-    let r = Register { value: 0, view: 0 };
-    let f = Forward { time: 0, view: 0 };
-    let registers = [r; 8];
-    let forward = [f; 16];
-    let coherence = [0u8; 16];
-    let views = Views {
-        rOld: 0,
-        wOld: 0,
-        rNew: 0,
-        wNew: 0,
-        cap: 0,
-        rel: 0,
-    };
     Thread {
-        position: 0,
-        registers: registers,
-        coherence: coherence,
-        forward: forward,
-        views: views,
+        registers: [Register::default(); 8],
+        coherence: [0; 16],
+        forward: [Forward::default(); 16],
         promises: 0,
+        position: 0,
+        views: Views::default(),
     }
 }
 
 pub fn fresh() -> Machine
     ensures { result ≡ fresh }
 {
-    let s = fresh_thread();
-    let threads = [s; 4];
     Machine {
         memory: fresh_memory(),
-        threads: threads,
+        threads: [fresh_thread(); 4],
     }
 }
 

@@ -16,7 +16,7 @@ impl Thread {
         if n < 8 {
             g[n as usize]
         } else {
-            Register { value: 0, view: 0 }
+            Register::default()
         }
     }
 
@@ -55,10 +55,7 @@ impl Thread {
         ensures { result ≡ with_register n value view self }
     {
         if n < 8 {
-            self.registers[n as usize] = Register {
-                value: value,
-                view: view,
-            };
+            self.registers[n as usize] = Register { value, view };
         }
         self
     }

@@ -143,11 +143,7 @@ pub fn memory_before(mut m: Memory) -> Memory
     ensures { result ≡ without_newest m }
 {
     let n = m.count - 1;
-    m.messages[n as usize] = Message {
-        location: 0,
-        value: 0,
-        thread: 0,
-    };
+    m.messages[n as usize] = Message::default();
     m.count = n;
     m
 }

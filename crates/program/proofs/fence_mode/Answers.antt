@@ -1,5 +1,6 @@
 -- `program::fence_mode` meets its contract: one case for each number.
 -- Assumes nothing.
+use native.Mathlib.Omega.{arith}
 use borrow.Author.Tests.{ne_eqb}
 use Rattle.program.specs.Program.{fence_mode}
 use Rattle.program.proofs.fence_mode.Goals as goal
@@ -18,4 +19,4 @@ returns-in-2 c = rw c.in-2.is
 
 pub returns-in_default : goal.returns-in_default
 unfolding fence_mode
-returns-in_default c = simp (ne_eqb _ _ c.in_default.in_default-own.rest.0.0.1, ne_eqb _ _ c.in_default.in_default-own.rest.0.1, ne_eqb _ _ c.in_default.in_default-own.rest.1)
+returns-in_default c = simp (ne_eqb c.args.m 0 (omega arith), ne_eqb c.args.m 1 (omega arith), ne_eqb c.args.m 2 (omega arith))

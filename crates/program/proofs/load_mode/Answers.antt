@@ -1,5 +1,6 @@
 -- `program::load_mode` meets its contract: one case for each number.
 -- Assumes nothing.
+use native.Mathlib.Omega.{arith}
 use borrow.Author.Tests.{ne_eqb}
 use Rattle.program.specs.Program.{load_mode}
 use Rattle.program.proofs.load_mode.Goals as goal
@@ -14,4 +15,4 @@ returns-in-1 c = rw c.in-1.is
 
 pub returns-in_default : goal.returns-in_default
 unfolding load_mode
-returns-in_default c = simp (ne_eqb _ _ c.in_default.in_default-own.rest.0.1, ne_eqb _ _ c.in_default.in_default-own.rest.1)
+returns-in_default c = simp (ne_eqb c.args.m 0 (omega arith), ne_eqb c.args.m 1 (omega arith))

@@ -5,4 +5,4 @@ use Rattle.machine.proofs.machines.fresh.Goals as goal
 
 pub returns : goal.returns
 unfolding fresh
-returns c = rw (c.fresh_memory.ensures, c.fresh_thread-s.ensures)
+returns c = rw (c.fresh_memory.ensures, c.fresh_thread.ensures)

@@ -1,5 +1,6 @@
 -- `program::Instruction::decode` meets its contract: one case for each op.
 -- Assumes nothing.
+use native.Mathlib.Omega.{arith}
 use borrow.Author.Tests.{ne_eqb}
 use Rattle.program.specs.Program.{decode}
 use Rattle.program.proofs.Instruction.decode.Goals as goal
@@ -43,8 +44,8 @@ unfolding decode
 returns-in_default c =
     simp (
       c.fence_mode.ensures,
-      ne_eqb _ _ c.in_default.in_default-own.rest.0.0.0.1,
-      ne_eqb _ _ c.in_default.in_default-own.rest.0.0.1,
-      ne_eqb _ _ c.in_default.in_default-own.rest.0.1,
-      ne_eqb _ _ c.in_default.in_default-own.rest.1,
+      ne_eqb c.args.self.op 0 (omega arith),
+      ne_eqb c.args.self.op 1 (omega arith),
+      ne_eqb c.args.self.op 2 (omega arith),
+      ne_eqb c.args.self.op 3 (omega arith),
     )
