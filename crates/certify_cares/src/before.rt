@@ -3,7 +3,7 @@ ghost use Rattle.std.specs.Prelude.{◌≡◌, ℕ, eqb, length};
 ghost use Rattle.program.specs.Program.{operand, compute_mode};
 ghost use Rattle.program.specs.declared.ComputeMode.TheVariants.{Add, Subtract, ExclusiveOr};
 ghost use Rattle.machine.specs.Rules.{value_of, combine, branch_by};
-ghost use Rattle.certify_cares.specs.Cares.{Agrees, care_of, Agreeing, AgreeingBut, first_of, second_of, Tells};
+ghost use Rattle.certify_cares.specs.Cares.{Agrees, care_of, Agreeing, AgreeingBut, first_of, second_of, no_step, Tells};
 
 use crate::barred::turned;
 use crate::{barring, joined};
@@ -36,6 +36,13 @@ impl Step {
         second: 0,
         earlier: false,
     };
+
+    // The same, proved to be the one of the definitions.
+    pub fn none() -> Step
+        ensures { result ≡ no_step }
+    {
+        Step::NONE
+    }
 }
 
 // The care for an instruction's first operand, and for its second.
