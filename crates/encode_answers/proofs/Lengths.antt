@@ -21,20 +21,29 @@ use Rattle.encode_program.proofs.Lengths.{program_length}
 use Rattle.encode_machine.proofs.Lengths.{machine_length}
 use Rattle.encode_bytes.specs.Numbers.{word32, word64}
 use Rattle.encode_bytes.proofs.Entries.{joined_length}
-use Rattle.encode_answers.specs.Value.{program_read, read_bytes, stepped_bytes, entries_bytes, shown_bytes, certified_bytes, replayed_bytes, found_bytes, searched_bytes, within_bytes, listing_bytes, listed_bytes, listed_within_bytes}
+use Rattle.encode_answers.specs.declared.ReplayNumbers.{ReplayNumbers}
+use Rattle.encode_answers.specs.Value.{file_bytes, program_read, read_bytes, machine_after_bytes, stepped_bytes, entries_bytes, shown_bytes, certified_bytes, replay_bytes, replayed_bytes, front_bytes, found_bytes, searched_bytes, within_bytes, listing_bytes, listed_bytes, listed_within_bytes}
+
+pub file_length : (refusal place : ℕ) (p : Program) → length (file_bytes refusal place p) ≡ 495
+unfolding file_bytes
+file_length refusal place p = omega (arith, program_length p)
 
 pub read_length : (r : Result Program Refused) → length (read_bytes r) ≡ 495
 unfolding read_bytes
-read_length r = omega (arith, program_length (program_read r))
+read_length r = file_length _ _ (program_read r)
+
+pub machine_after_length : (refusal : ℕ) (x : Machine) → length (machine_after_bytes refusal x) ≡ 342
+unfolding machine_after_bytes
+machine_after_length refusal x = omega (arith, machine_length x)
 
 pub stepped_length : (x : Machine) (r : Result Machine Refusal) → length (stepped_bytes x r) ≡ 342
-stepped_length x (Ok y) = omega (arith, machine_length y)
-stepped_length x (Err r) = omega (arith, machine_length x)
+stepped_length x (Ok y) = machine_after_length _ y
+stepped_length x (Err r) = machine_after_length _ x
 
 entries_length : (r : Run) → length (entries_bytes r) ≡ 32
 entries_length r = joined_length _ 2 (λ k. refl) 0 16
 
-shown_length : (refusal certified : ℕ) (r : Run) → length (shown_bytes refusal certified r) ≡ 36
+pub shown_length : (refusal certified : ℕ) (r : Run) → length (shown_bytes refusal certified r) ≡ 36
 unfolding shown_bytes
 shown_length refusal certified r = omega (arith, entries_length r)
 
@@ -43,13 +52,21 @@ certified_length (Ok (Some run)) = shown_length 0 1 run
 certified_length (Ok None) = shown_length 0 0 (run_of [])
 certified_length (Err r) = shown_length (number r) 0 (run_of [])
 
+pub replay_length : (n : ReplayNumbers) (x : Machine) → length (replay_bytes n x) ≡ 357
+unfolding replay_bytes
+replay_length n x = omega (arith, machine_length x)
+
 pub replayed_length : (r : Replayed) → length (replayed_bytes r) ≡ 357
 unfolding replayed_bytes
-replayed_length r = omega (arith, machine_length r.machine)
+replayed_length r = replay_length _ r.machine
+
+pub front_length : (verdict refusal steps place : ℕ) → length (front_bytes verdict refusal steps place) ≡ 8
+unfolding front_bytes
+front_length verdict refusal steps place = refl
 
 pub found_length : (r : Result Answer Refused) → length (found_bytes r) ≡ 8
 unfolding found_bytes
-found_length r = refl
+found_length r = front_length _ _ _ _
 
 pub searched_length : (r : Result Answer Refused) → length (searched_bytes r) ≡ 12
 unfolding searched_bytes
@@ -61,7 +78,7 @@ within_length r = length-append (found_bytes r) (word64 (search_count r)) ∙ (l
 
 pub listing_length : (r : Result Listed Refused) → length (listing_bytes r) ≡ 8
 unfolding listing_bytes
-listing_length r = refl
+listing_length r = front_length _ _ _ _
 
 pub listed_length : (r : Result Listed Refused) → length (listed_bytes r) ≡ 16
 unfolding listed_bytes

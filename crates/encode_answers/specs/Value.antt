@@ -1,4 +1,4 @@
--- The bytes of each call's answer.
+-- The bytes of each call's answer: over numbers, and of the answer's own type by these.
 -- Assumes nothing.
 use Rattle.std.specs.Prelude.{cond, List, [], ◌∷◌, ◌++◌, ℕ, get_or, Option, Some, None, Result, Ok, Err}
 use Rattle.program.specs.declared.Program.{Program}
@@ -18,19 +18,28 @@ use Rattle.encode_bytes.specs.Numbers.{word32, word64}
 use Rattle.encode_numbers.specs.Cases.{refused_number, refused_place, replay_refusal, replay_file, replay_index, replay_place, verdict_byte, search_steps, search_count, listing_byte, listing_refusal, listing_count, outcomes_number}
 use Rattle.encode_program.specs.Value.{program_bytes}
 use Rattle.encode_machine.specs.Value.{machine_bytes}
+use Rattle.encode_answers.specs.declared.ReplayNumbers.{ReplayNumbers}
 
--- ---- read: refusal (0 none), 3 zero bytes, place u32, the program value, of all 0 where the file is refused; 495 bytes
+-- ---- a program file: refusal (0 none), 3 zero bytes, place u32, the program value; 495 bytes
+unfoldable pub file_bytes : ℕ → ℕ → Program → List ℕ
+file_bytes refusal place p = (refusal ∷ 0 ∷ 0 ∷ 0 ∷ []) ++ (word32 place ++ program_bytes p)
+
+-- ---- read: the program of all 0 where the file is refused
 abbrev pub program_read : Result Program Refused → Program
 program_read (Ok p) = p
 program_read (Err e) = no_program
 
 unfoldable pub read_bytes : Result Program Refused → List ℕ
-read_bytes r = (refused_number r ∷ 0 ∷ 0 ∷ 0 ∷ []) ++ (word32 (refused_place r) ++ program_bytes (program_read r))
+read_bytes r = file_bytes (refused_number r) (refused_place r) (program_read r)
 
--- ---- step of the machine x: refusal (0 accepted), the machine value, as it came in where the step is refused; 342 bytes
+-- ---- a machine after a step: refusal (0 accepted), the machine value; 342 bytes
+unfoldable pub machine_after_bytes : ℕ → Machine → List ℕ
+machine_after_bytes refusal x = (refusal ∷ []) ++ machine_bytes x
+
+-- ---- step of the machine x: as it came in where the step is refused
 abbrev pub stepped_bytes : Machine → Result Machine Refusal → List ℕ
-stepped_bytes x (Ok y) = (0 ∷ []) ++ machine_bytes y
-stepped_bytes x (Err r) = (number r ∷ []) ++ machine_bytes x
+stepped_bytes x (Ok y) = machine_after_bytes 0 y
+stepped_bytes x (Err r) = machine_after_bytes (number r) x
 
 -- ---- certify: an entry of a run; 2 bytes
 abbrev pub entry_bytes : RunStep → List ℕ
@@ -50,18 +59,39 @@ certified_bytes (Ok (Some run)) = shown_bytes 0 1 run
 certified_bytes (Ok None) = shown_bytes 0 0 (run_of [])
 certified_bytes (Err r) = shown_bytes (number r) 0 (run_of [])
 
--- ---- replay: refusal, the file it is in (0 none, 1 program, 2 trace), complete, holds, steps u32, index u32, place u32, the machine value; 357 bytes
-unfoldable pub replayed_bytes : Replayed → List ℕ
-replayed_bytes r =
-    (replay_refusal r.answer ∷ replay_file r.answer ∷ cond r.complete 1 0 ∷ cond r.holds 1 0 ∷ [])
-    ++ (word32 r.steps
-    ++ (word32 (replay_index r.answer)
-    ++ (word32 (replay_place r.answer)
-    ++ machine_bytes r.machine)))
+-- ---- a trace's replay: refusal, the file it is in (0 none, 1 program, 2 trace), complete, holds, steps u32, index u32, place u32, the machine value; 357 bytes
+unfoldable pub replay_bytes : ReplayNumbers → Machine → List ℕ
+replay_bytes n x =
+    (n.refusal ∷ n.file ∷ cond n.complete 1 0 ∷ cond n.holds 1 0 ∷ [])
+    ++ (word32 n.steps
+    ++ (word32 n.index
+    ++ (word32 n.place
+    ++ machine_bytes x)))
 
--- ---- search: verdict (0 refused, 1 allowed, 2 forbidden, 3 not finished), refusal, steps, 0, place u32
+-- the numbers of a replay
+abbrev pub replay_numbers : Replayed → ReplayNumbers
+replay_numbers r =
+    record {
+      refusal = replay_refusal r.answer;
+      file = replay_file r.answer;
+      complete = r.complete;
+      holds = r.holds;
+      steps = r.steps;
+      index = replay_index r.answer;
+      place = replay_place r.answer;
+    }
+
+-- and its machine
+unfoldable pub replayed_bytes : Replayed → List ℕ
+replayed_bytes r = replay_bytes (replay_numbers r) r.machine
+
+-- ---- what the answers of searches and listings begin with: verdict, refusal, steps, 0, place u32; 8 bytes
+unfoldable pub front_bytes : ℕ → ℕ → ℕ → ℕ → List ℕ
+front_bytes verdict refusal steps place = (verdict ∷ refusal ∷ steps ∷ 0 ∷ []) ++ word32 place
+
+-- ---- search: verdict (0 refused, 1 allowed, 2 forbidden, 3 not finished), refusal, steps, place
 unfoldable pub found_bytes : Result Answer Refused → List ℕ
-found_bytes r = (verdict_byte r ∷ refused_number r ∷ search_steps r ∷ 0 ∷ []) ++ word32 (refused_place r)
+found_bytes r = front_bytes (verdict_byte r) (refused_number r) (search_steps r) (refused_place r)
 
 -- and count u32; 12 bytes
 unfoldable pub searched_bytes : Result Answer Refused → List ℕ
@@ -71,9 +101,9 @@ searched_bytes r = found_bytes r ++ word32 (search_count r)
 unfoldable pub within_bytes : Result Answer Refused → List ℕ
 within_bytes r = found_bytes r ++ word64 (search_count r)
 
--- ---- outcomes: verdict (0 refused, 1 finished, 3 not finished), refusal, 2 zero bytes, place u32
+-- ---- outcomes: verdict (0 refused, 1 finished, 3 not finished), refusal, no steps, place
 unfoldable pub listing_bytes : Result Listed Refused → List ℕ
-listing_bytes r = (listing_byte r ∷ listing_refusal r ∷ 0 ∷ 0 ∷ []) ++ word32 (refused_place r)
+listing_bytes r = front_bytes (listing_byte r) (listing_refusal r) 0 (refused_place r)
 
 -- and count u32, number of outcomes u32; 16 bytes
 unfoldable pub listed_bytes : Result Listed Refused → List ℕ

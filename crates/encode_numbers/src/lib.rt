@@ -139,7 +139,7 @@ pub fn listing_refusal(r: Result<outcomes::Answer, Refused>) -> u8
                 Listing::NotFinished => 0,
             }
         }
-        Err(e) => e.refusal.number(),
+        Err(_) => refused_number(&r),
     }
 }
 

@@ -1,11 +1,9 @@
--- `encode_answers::put_found` meets its contract: part after part.
+-- `encode_answers::put_found` meets its contract: the numbers are those of its answer.
 -- Assumes nothing.
-use native.Mathlib.Omega.{arith}
 use Rattle.encode_answers.specs.Value.{found_bytes}
-use Rattle.encode_bytes.proofs.Putting.{put_then}
 use Rattle.encode_answers.proofs.put_found.Goals as goal
 
 pub returns : goal.returns
 unfolding found_bytes
 returns c =
-    put_then _ _ _ _ _ (rw (c.search_steps.ensures, c.refused_number.ensures, c.verdict_byte.ensures) at c.put_bytes.ensures) (rw c.refused_place.ensures at c.put_u32.ensures) (omega arith) (omega arith)
+    rw (c.refused_place.ensures, c.search_steps.ensures, c.refused_number.ensures, c.verdict_byte.ensures) at c.put_front.ensures

@@ -1,11 +1,8 @@
--- `encode_answers::put_listing` meets its contract: part after part.
+-- `encode_answers::put_listing` meets its contract: the numbers are those of its answer.
 -- Assumes nothing.
-use native.Mathlib.Omega.{arith}
 use Rattle.encode_answers.specs.Value.{listing_bytes}
-use Rattle.encode_bytes.proofs.Putting.{put_then}
 use Rattle.encode_answers.proofs.put_listing.Goals as goal
 
 pub returns : goal.returns
 unfolding listing_bytes
-returns c =
-    put_then _ _ _ _ _ (rw (c.listing_refusal.ensures, c.listing_byte.ensures) at c.put_bytes.ensures) (rw c.refused_place.ensures at c.put_u32.ensures) (omega arith) (omega arith)
+returns c = rw (c.refused_place.ensures, c.listing_refusal.ensures, c.listing_byte.ensures) at c.put_front.ensures
