@@ -16,7 +16,7 @@
  * are the low 32 bits of the number. Calls keep nothing between them, and may run at the same time on different areas.
  *
  * Stack, by the frames of the code for x86-64: blyskota_read 5 KiB, blyskota_certify 33 KiB, blyskota_step 35 KiB, blyskota_replay 36 KiB,
- * blyskota_search 148 KiB, blyskota_search_within 148 KiB, blyskota_outcomes 148 KiB, blyskota_outcomes_within 148 KiB. No proof speaks
+ * blyskota_search 147 KiB, blyskota_search_within 147 KiB, blyskota_outcomes 147 KiB, blyskota_outcomes_within 147 KiB. No proof speaks
  * of it: lend each call as much, and some for what calls it.
  *
  * README.md says byte by byte what a program file and a trace file are.

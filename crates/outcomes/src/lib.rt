@@ -95,8 +95,11 @@ pub fn outcomes_within(
 ) -> Result<Answer, Refused>
     ensures { ListedWithin file.now budget table.old machines.old result table.new machines.new }
 {
-    let p = read(file)?;
-    Ok(list_program(p, budget, true, table, machines))
+    // No `?`, which would copy the program: what the call takes of the stack stands in the header for C.
+    match read(file) {
+        Ok(p) => Ok(list_program(p, budget, true, table, machines)),
+        Err(e) => Err(e),
+    }
 }
 
 // The plain listing: without a table of machines, and with budget and places of 32 bits.
@@ -104,6 +107,8 @@ pub fn outcomes(file: &[u8], budget: u32, table: &mut [u8]) -> Result<Answer, Re
     ensures { Listed file.now budget table.old result table.new }
 {
     let mut none = [0u8; 0];
-    let p = read(file)?;
-    Ok(list_program(p, budget as u64, false, table, &mut none))
+    match read(file) {
+        Ok(p) => Ok(list_program(p, budget as u64, false, table, &mut none)),
+        Err(e) => Err(e),
+    }
 }

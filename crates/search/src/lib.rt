@@ -76,11 +76,15 @@ pub fn search_within(
 ) -> Result<Answer, Refused>
     ensures { SearchedWithin file.now budget area.old table.old result area.new table.new }
 {
-    let p = read(file)?;
-    if area.len() < 480 {
-        return Err(Refusal::ShortArea.at(0));
+    // No `?`, which would copy the program: what the call takes of the stack stands in the header for C.
+    match read(file) {
+        Ok(p) => if area.len() < 480 {
+            Err(Refusal::ShortArea.at(0))
+        } else {
+            Ok(search_program(p, budget, area, table))
+        },
+        Err(e) => Err(e),
     }
-    Ok(search_program(p, budget, area, table))
 }
 
 // The plain search: without a table, and with a budget of 32 bits.
