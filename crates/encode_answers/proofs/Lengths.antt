@@ -1,28 +1,26 @@
 -- The answers have the lengths that the calls test for.
 -- Assumes nothing.
 use mathlib.Core.Path.{◌≡◌, refl, ◌∙◌}
-use mathlib.Core.List.{[], ◌++◌}
+use mathlib.Core.List.{◌++◌}
 use Prim.Native.Nat.{ℕ}
 use native.Mathlib.Omega.{arith}
 use lib.ListN.{length, length-append}
-use Rattle.std.specs.Prelude.{Option, Some, None, Result, Ok, Err}
+use Rattle.std.specs.Prelude.{Option, Result, Ok, Err}
 use Rattle.program.specs.declared.Program.{Program}
 use Rattle.program.specs.declared.Refusal.{Refusal}
 use Rattle.program.specs.declared.Refused.{Refused}
-use Rattle.program.specs.Refusals.{number}
 use Rattle.machine.specs.declared.Machine.{Machine}
 use Rattle.certify_runs.specs.declared.Run.{Run}
 use Rattle.trace_replay.specs.declared.Replayed.{Replayed}
 use Rattle.search.specs.declared.Answer.{Answer}
 use Rattle.outcomes.specs.declared.Answer.{Answer as Listed}
-use Rattle.certify_runs.specs.Values.{run_of}
 use Rattle.encode_numbers.specs.Cases.{search_count, listing_count, outcomes_number}
 use Rattle.encode_program.proofs.Lengths.{program_length}
 use Rattle.encode_machine.proofs.Lengths.{machine_length}
 use Rattle.encode_bytes.specs.Numbers.{word32, word64}
 use Rattle.encode_bytes.proofs.Entries.{joined_length}
 use Rattle.encode_answers.specs.declared.ReplayNumbers.{ReplayNumbers}
-use Rattle.encode_answers.specs.Value.{file_bytes, program_read, read_bytes, machine_after_bytes, stepped_bytes, entries_bytes, shown_bytes, certified_bytes, replay_bytes, replayed_bytes, front_bytes, found_bytes, searched_bytes, within_bytes, listing_bytes, listed_bytes, listed_within_bytes}
+use Rattle.encode_answers.specs.Value.{file_bytes, program_read, read_bytes, machine_after_bytes, stepped_bytes, entries_bytes, shown_bytes, run_shown, certified_bytes, replay_bytes, replayed_bytes, front_bytes, found_bytes, searched_bytes, within_bytes, listing_bytes, listed_bytes, listed_within_bytes}
 
 pub file_length : (refusal place : ℕ) (p : Program) → length (file_bytes refusal place p) ≡ 495
 unfolding file_bytes
@@ -48,9 +46,7 @@ unfolding shown_bytes
 shown_length refusal certified r = omega (arith, entries_length r)
 
 pub certified_length : (r : Result (Option Run) Refusal) → length (certified_bytes r) ≡ 36
-certified_length (Ok (Some run)) = shown_length 0 1 run
-certified_length (Ok None) = shown_length 0 0 (run_of [])
-certified_length (Err r) = shown_length (number r) 0 (run_of [])
+certified_length r = shown_length _ _ (run_shown r)
 
 pub replay_length : (n : ReplayNumbers) (x : Machine) → length (replay_bytes n x) ≡ 357
 unfolding replay_bytes

@@ -15,7 +15,7 @@ use Rattle.search.specs.declared.Answer.{Answer}
 use Rattle.outcomes.specs.declared.Answer.{Answer as Listed}
 use Rattle.encode_bytes.specs.Lists.{joined}
 use Rattle.encode_bytes.specs.Numbers.{word32, word64}
-use Rattle.encode_numbers.specs.Cases.{refused_number, refused_place, replay_refusal, replay_file, replay_index, replay_place, verdict_byte, search_steps, search_count, listing_byte, listing_refusal, listing_count, outcomes_number}
+use Rattle.encode_numbers.specs.Cases.{refused_number, refused_place, refusal_number, certified_byte, replay_refusal, replay_file, replay_index, replay_place, verdict_byte, search_steps, search_count, listing_byte, listing_refusal, listing_count, outcomes_number}
 use Rattle.encode_program.specs.Value.{program_bytes}
 use Rattle.encode_machine.specs.Value.{machine_bytes}
 use Rattle.encode_answers.specs.declared.ReplayNumbers.{ReplayNumbers}
@@ -54,10 +54,13 @@ unfoldable pub shown_bytes : ℕ → ℕ → Run → List ℕ
 shown_bytes refusal certified run = (refusal ∷ certified ∷ run.count ∷ 0 ∷ []) ++ entries_bytes run
 
 -- without steps where there is no run
+abbrev pub run_shown : Result (Option Run) Refusal → Run
+run_shown (Ok (Some run)) = run
+run_shown (Ok None) = run_of []
+run_shown (Err r) = run_of []
+
 abbrev pub certified_bytes : Result (Option Run) Refusal → List ℕ
-certified_bytes (Ok (Some run)) = shown_bytes 0 1 run
-certified_bytes (Ok None) = shown_bytes 0 0 (run_of [])
-certified_bytes (Err r) = shown_bytes (number r) 0 (run_of [])
+certified_bytes r = shown_bytes (refusal_number r) (certified_byte r) (run_shown r)
 
 -- ---- a trace's replay: refusal, the file it is in (0 none, 1 program, 2 trace), complete, holds, steps u32, index u32, place u32, the machine value; 357 bytes
 unfoldable pub replay_bytes : ReplayNumbers → Machine → List ℕ

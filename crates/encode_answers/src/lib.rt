@@ -11,9 +11,9 @@ use certify_runs::{Run, RunStep};
 use encode_bytes::{Encode, put_bytes, put_each, put_u32, put_u64};
 use encode_machine::put_machine;
 use encode_numbers::{
-    listing_byte, listing_count, listing_refusal, outcomes_number, refused_number, refused_place,
-    replay_file, replay_index, replay_place, replay_refusal, search_count, search_steps,
-    verdict_byte, yes_byte,
+    certified_byte, listing_byte, listing_count, listing_refusal, outcomes_number, refusal_number,
+    refused_number, refused_place, replay_file, replay_index, replay_place, replay_refusal,
+    search_count, search_steps, verdict_byte, yes_byte,
 };
 use encode_program::put_program;
 use machine::Machine;
@@ -99,10 +99,12 @@ pub fn put_certified(area: &mut [u8], r: Result<Option<Run>, Refusal>)
     requires { 36 ≤ length area.old }
     ensures { area.new ≡ put 0 (certified_bytes r) area.old }
 {
+    let refusal = refusal_number(&r);
+    let certified = certified_byte(&r);
     match r {
-        Ok(Some(run)) => put_shown(area, 0, 1, run),
-        Ok(None) => put_shown(area, 0, 0, Run::default()),
-        Err(refusal) => put_shown(area, refusal.number(), 0, Run::default()),
+        Ok(Some(run)) => put_shown(area, refusal, certified, run),
+        Ok(None) => put_shown(area, refusal, certified, Run::default()),
+        Err(_) => put_shown(area, refusal, certified, Run::default()),
     }
 }
 

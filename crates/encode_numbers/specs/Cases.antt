@@ -1,6 +1,7 @@
 -- The numbers that the cases of each answer stand for; 0 where a case has none.
 -- Assumes nothing.
-use Rattle.std.specs.Prelude.{ℕ, Result, Ok, Err}
+use Rattle.std.specs.Prelude.{ℕ, Option, Some, None, Result, Ok, Err}
+use Rattle.program.specs.declared.Refusal.{Refusal}
 use Rattle.program.specs.declared.Refused.{Refused}
 use Rattle.program.specs.declared.Refusal.TheVariants.{ManyOutcomes}
 use Rattle.program.specs.Refusals.{number}
@@ -23,6 +24,19 @@ refused_number (Err e) = number e.refusal
 abbrev pub refused_place : {A : Type 0} → Result A Refused → ℕ
 refused_place (Ok x) = 0
 refused_place (Err e) = e.place
+
+-- ---- a refusal without a place, of whatever answer
+-- the refusal number
+abbrev pub refusal_number : {A : Type 0} → Result A Refusal → ℕ
+refusal_number (Ok x) = 0
+refusal_number (Err r) = number r
+
+-- ---- certify
+-- whether the thread is certified
+abbrev pub certified_byte : {A : Type 0} → Result (Option A) Refusal → ℕ
+certified_byte (Ok (Some x)) = 1
+certified_byte (Ok None) = 0
+certified_byte (Err r) = 0
 
 -- ---- replay
 -- the number of the refusal, of whichever file

@@ -2,7 +2,7 @@
 #![tactic(auto)]
 
 ghost use Rattle.std.specs.Prelude.{◌≡◌, cond};
-ghost use Rattle.encode_numbers.specs.Cases.{refused_number, refused_place, replay_refusal, replay_file, replay_index, replay_place, verdict_byte, search_steps, search_count, listing_byte, listing_refusal, listing_count, outcomes_number};
+ghost use Rattle.encode_numbers.specs.Cases.{refused_number, refused_place, refusal_number, certified_byte, replay_refusal, replay_file, replay_index, replay_place, verdict_byte, search_steps, search_count, listing_byte, listing_refusal, listing_count, outcomes_number};
 
 use outcomes::Verdict as Listing;
 use program::{Refusal, Refused};
@@ -25,6 +25,27 @@ pub fn refused_place<A>(r: &Result<A, Refused>) -> usize
     match r {
         Ok(_) => 0,
         Err(e) => e.place,
+    }
+}
+
+// ---- a refusal without a place, of whatever answer
+pub fn refusal_number<A>(r: &Result<A, Refusal>) -> u8
+    ensures { result ≡ refusal_number r.now }
+{
+    match r {
+        Ok(_) => 0,
+        Err(refusal) => refusal.number(),
+    }
+}
+
+// ---- certify
+pub fn certified_byte<A>(r: &Result<Option<A>, Refusal>) -> u8
+    ensures { result ≡ certified_byte r.now }
+{
+    match r {
+        Ok(Some(_)) => 1,
+        Ok(None) => 0,
+        Err(_) => 0,
     }
 }
 
